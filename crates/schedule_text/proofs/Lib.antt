@@ -1,0 +1,4 @@
+pub mod WordLemmas
+pub mod EventLemmas
+pub mod RunLemmas
+pub mod ScheduleLemmas

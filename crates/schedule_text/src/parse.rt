@@ -1,0 +1,110 @@
+ghost use Rattle.std.specs.Prelude.{◌≡◌, ◌≢◌, ◌<◌, ◌≤◌, ◌^◌, ◌++◌, ◌∷◌, ℕ, List, IfSome, IfNone, decimal};
+ghost use Rattle.schedule_text.specs.declared.event.Event.{Event as EventValue};
+ghost use Rattle.schedule_text.specs.declared.event.Cluster.{Cluster as ClusterValue};
+ghost use Rattle.schedule_text.specs.Events.{SpellsEvent, IsInRange, SpellsCluster, IsClusterInRange};
+ghost use Rattle.schedule_text.specs.Words.{HasNoSpace, IsWithin, IsNoneWithin, IsNoneFirst};
+
+use crate::{Cluster, Event};
+use io_core::read_number;
+
+// What stands before the first space and after it.
+fn split_word(text: &[u8]) -> Option<(&[u8], &[u8])>
+    ensures some { IfSome result (λ parts. (text.now ≡ parts.0.now ++ 32 ∷ parts.1.now) × HasNoSpace parts.0.now) }
+    ensures none { IfNone result (HasNoSpace text.now) }
+{
+    for (at, byte) in text.iter().enumerate() {
+        if *byte == b' ' {
+            return Some((&text[..at], &text[at + 1..]));
+        }
+    }
+    None
+}
+
+// The number that the text spells, from 1 to the most.
+fn last_number(text: &[u8], most: u64) -> Option<u64>
+    ensures some { IfSome result (λ n. (text.now ≡ decimal n) × IsWithin most n) }
+    ensures none { IfNone result (IsNoneWithin most text.now) }
+{
+    match read_number(text) {
+        Some(number) => {
+            if number == 0 {
+                return None;
+            }
+            if number > most {
+                return None;
+            }
+            Some(number)
+        }
+        None => None,
+    }
+}
+
+// The number before the first space, from 1 to the most, and what stands after that space.
+fn first_number(text: &[u8], most: u64) -> Option<(u64, &[u8])>
+    ensures some { IfSome result (λ found. (text.now ≡ decimal found.0 ++ 32 ∷ found.1.now) × IsWithin most found.0) }
+    ensures none { IfNone result (IsNoneFirst most text.now) }
+{
+    let Some((word, rest)) = split_word(text) else {
+        return None;
+    };
+    let Some(number) = last_number(word, most) else {
+        return None;
+    };
+    Some((number, rest))
+}
+
+/// The cluster that a first line spells, where its numbers are in range.
+pub fn read_cluster(line: &[u8]) -> Option<Cluster>
+    ensures some { IfSome result (λ c. SpellsCluster line.now c × IsClusterInRange c) }
+    ensures none { IfNone result ((c : ClusterValue) → SpellsCluster line.now c → ¬ IsClusterInRange c) }
+{
+    let Some(numbers) = line.strip_prefix(b"cluster ") else {
+        return None;
+    };
+    let Some((nodes, rest)) = first_number(numbers, 7) else {
+        return None;
+    };
+    let Some((servers, rest)) = first_number(rest, 9) else {
+        return None;
+    };
+    let Some((clients, rest)) = first_number(rest, 9) else {
+        return None;
+    };
+    let Some((rows, rest)) = first_number(rest, 8) else {
+        return None;
+    };
+    let Some(slots) = last_number(rest, 4096) else {
+        return None;
+    };
+    Some(Cluster {
+        nodes: nodes as u8,
+        servers: servers as u8,
+        clients: clients as u8,
+        rows: rows as u8,
+        slots: slots as u32,
+    })
+}
+
+/// The event that a further line spells, where its numbers are in the ranges of the cluster.
+pub fn read_event(line: &[u8], cluster: &Cluster) -> Option<Event>
+    ensures some { IfSome result (λ event. SpellsEvent line.now event × IsInRange cluster.now event) }
+    ensures none { IfNone result ((event : EventValue) → SpellsEvent line.now event → ¬ IsInRange cluster.now event) }
+{
+    let servers = u64::from(cluster.servers);
+    if line == b"next".as_slice() {
+        return Some(Event::Next);
+    }
+    if let Some(text) = line.strip_prefix(b"read ") {
+        return match last_number(text, servers) {
+            Some(server) => Some(Event::Read(server as u8)),
+            None => None,
+        };
+    }
+    if let Some(text) = line.strip_prefix(b"cas ") {
+        return match last_number(text, servers) {
+            Some(server) => Some(Event::Cas(server as u8)),
+            None => None,
+        };
+    }
+    None
+}

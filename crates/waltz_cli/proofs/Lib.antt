@@ -1,0 +1,5 @@
+pub mod WordsLemmas
+pub mod Reading
+pub mod Finishing
+pub mod Going
+pub mod Exactly

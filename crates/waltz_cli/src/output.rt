@@ -1,0 +1,86 @@
+ghost use Rattle.std.specs.Prelude.{◌≡◌, ◌⊎◌, ◌++◌, [], OnOk, OnErr, IfErr, ◌≤◌};
+ghost use Rattle.std.specs.Io.KnownBytes.{Appends};
+ghost use Rattle.io_core.specs.Bytes.{AppendsPrefix};
+ghost use Rattle.io_core.specs.Causes.{Rose};
+ghost use Rattle.schedule_text.specs.Outcomes.{outcome_line};
+ghost use Rattle.waltz_cli.specs.Ends.{IsBrokenEnd};
+ghost use Rattle.waltz_cli.specs.Steps.{AddsLast, Finishes};
+
+use crate::end::End;
+use io_core::{Fault, Sink, write_all};
+use schedule_text::Outcome;
+use std::alloc::{AllocError, Global};
+use std::fmt::Write;
+
+/// The bytes that wait to be written, and room for the line that is printed now.
+#[derive(Drop)]
+pub struct Output {
+    pub waiting: Vec<u8>,
+    line: String,
+}
+
+impl Output {
+    pub fn new(alloc: Global) -> Output
+        ensures { result.waiting.items ≡ [] }
+    {
+        Output {
+            waiting: Vec::new(alloc),
+            line: String::new(alloc),
+        }
+    }
+
+    /// Adds the line of an outcome.
+    pub fn print(&mut self, outcome: Outcome) -> Result<(), AllocError>
+        ensures ok { OnOk result (self.new.waiting.items ≡ self.old.waiting.items ++ outcome_line outcome) }
+        ensures err { OnErr result (self.new.waiting.items ≡ self.old.waiting.items) }
+    {
+        self.line.clear();
+        write!(self.line, "{outcome}\n")?;
+        self.waiting.extend_from_slice(self.line.as_bytes())
+    }
+
+    // Adds the last line of an end. Where there is no memory for it, that is the end.
+    fn print_end(&mut self, end: End) -> End
+        ensures { AddsLast self.old.waiting.items self.new.waiting.items end result }
+    {
+        self.line.clear();
+        if write!(self.line, "{end}").is_err() {
+            return End::Memory;
+        }
+        match self.waiting.extend_from_slice(self.line.as_bytes()) {
+            Ok(()) => end,
+            Err(_) => End::Memory,
+        }
+    }
+
+    /// Writes what waits. Nothing waits afterwards, also where the sink failed.
+    pub fn write<W: Sink>(&mut self, sink: &mut W) -> Result<(), End>
+        ensures written { OnOk result (Appends (W.contents sink.old) (W.contents sink.new) self.old.waiting.items) }
+        ensures broken { IfErr result IsBrokenEnd × OnErr result (AppendsPrefix (W.contents sink.old) (W.contents sink.new) self.old.waiting.items) }
+        ensures empty { self.new.waiting.items ≡ [] }
+        ensures later { W.faults sink.old ≤ W.faults sink.new }
+        ensures fault { result ≡ Err End.WriteFault → Rose (W.faults sink.old) (W.faults sink.new) }
+    {
+        let written = write_all(sink, &self.waiting);
+        self.waiting.clear();
+        match written {
+            Ok(()) => Ok(()),
+            Err(Fault::Failed) => Err(End::WriteFault),
+            Err(Fault::Memory) => Err(End::Memory),
+        }
+    }
+
+    /// Writes what waits and the last line of an end, and gives the status.
+    pub fn finish<W: Sink>(&mut self, sink: &mut W, end: End) -> u8
+        ensures ends { Finishes (W.contents sink.old) (W.contents sink.new) self.old.waiting.items end result }
+        ensures later { W.faults sink.old ≤ W.faults sink.new }
+        ensures fault { result ≡ 11 → (end ≡ End.WriteFault) ⊎ Rose (W.faults sink.old) (W.faults sink.new) }
+        ensures read_fault { result ≡ 10 → end ≡ End.ReadFault }
+    {
+        let end = self.print_end(end);
+        match self.write(sink) {
+            Ok(()) => end.status(),
+            Err(broken) => broken.status(),
+        }
+    }
+}

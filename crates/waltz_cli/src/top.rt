@@ -1,0 +1,47 @@
+ghost use Rattle.std.specs.Prelude.{◌≡◌, ◌≢◌, ◌↔◌, [], ◌∷◌, map, codes, string_bytes, IsTrue};
+ghost use Rattle.io_core.specs.Causes.{Rose};
+ghost use Rattle.schedule_text.specs.Runs.{EveryRunIsSound};
+ghost use Rattle.waltz_cli.specs.Replays.{PrintsReplay, ComesExactly, PrintsUsage};
+
+use crate::end::End;
+use crate::events::replay;
+use crate::output::Output;
+use io_core::{Sink, Source};
+use std::alloc::Global;
+
+// Whether the words are the one word `replay`.
+fn is_replay(words: &[String]) -> bool
+    ensures { IsTrue result ↔ (map string_bytes words.now ≡ codes "replay" ∷ []) }
+{
+    match words {
+        [word] => word.as_str() == "replay",
+        _ => false,
+    }
+}
+
+/// The program: it takes the words of its command line without its own name, and gives its status.
+///
+/// The one command is `replay`. It reads a schedule from the source, a line for the cluster and then at most 20,000
+/// events, and prints the line of each event's outcome. Output is written before the program waits for more input.
+pub fn run<S: Source, W: Sink>(alloc: Global, words: &[String], source: &mut S, sink: &mut W) -> u8
+    // What is printed is a run of the world, and the status says how it ended.
+    ensures replay { map string_bytes words.now ≡ codes "replay" ∷ []
+        → PrintsReplay (S.left source.old) (S.left source.new) (W.contents sink.old) (W.contents sink.new) result }
+    ensures exactly { map string_bytes words.now ≡ codes "replay" ∷ [] → ComesExactly (S.left source.old) result }
+    ensures sound { EveryRunIsSound }
+
+    // Other words touch nothing but the output.
+    ensures usage { map string_bytes words.now ≢ codes "replay" ∷ [] → PrintsUsage (W.contents sink.old) (W.contents sink.new) result }
+    ensures untouched { map string_bytes words.now ≢ codes "replay" ∷ [] → source.new ≡ source.old }
+
+    // A fault is told only where it was counted.
+    ensures read { result ≡ 10 → Rose (S.faults source.old) (S.faults source.new) }
+    ensures write { result ≡ 11 → Rose (W.faults sink.old) (W.faults sink.new) }
+{
+    let mut output = Output::new(alloc);
+    if !is_replay(words) {
+        return output.finish(sink, End::Usage);
+    }
+    let end = replay(alloc, source, sink, &mut output);
+    output.finish(sink, end)
+}
