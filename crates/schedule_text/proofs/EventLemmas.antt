@@ -2,7 +2,7 @@
 use Rattle.std.proofs.Common.{◌≡◌, ℕ, ◌<◌, ◌^◌, List, ◌∷◌, ◌++◌, get_or, arith, refl, sym, ◌∙◌, ap, decimal, codes}
 use Rattle.std.proofs.lemmas.Fmt.{decimal_injective}
 use Rattle.schedule_text.specs.declared.event.Event.{Event}
-use Rattle.schedule_text.specs.declared.event.Event.TheVariants.{Read, Cas, Next}
+use Rattle.schedule_text.specs.declared.event.Event.TheVariants.{Read, Cas, Tick, Next}
 use Rattle.schedule_text.specs.declared.event.Cluster.{Cluster}
 use Rattle.schedule_text.specs.Events.{spelling, HasNumbers, SpellsCluster, IsClusterInRange, cluster_spelling}
 use Rattle.schedule_text.specs.Words.{IsWithin}
@@ -15,14 +15,21 @@ first_letter text = get_or text 0 0
 pub spelling_injective : (a b : Event) → HasNumbers a → HasNumbers b → spelling a ≡ spelling b → a ≡ b
 unfolding first_letter
 spelling_injective (Read m) (Read n) p q e = ap Read (decimal_injective m n p q cc)
-spelling_injective (Cas m) (Cas n) p q e = ap Cas (decimal_injective m n p q cc)
-spelling_injective Next Next p q e = refl
 spelling_injective (Read m) (Cas n) p q e = let first : ◌≡◌ {A = ℕ} 114 99 = ap first_letter e in absurd (omega arith)
+spelling_injective (Read m) (Tick n) p q e = let first : ◌≡◌ {A = ℕ} 114 116 = ap first_letter e in absurd (omega arith)
 spelling_injective (Read m) Next p q e = let first : ◌≡◌ {A = ℕ} 114 110 = ap first_letter e in absurd (omega arith)
 spelling_injective (Cas m) (Read n) p q e = let first : ◌≡◌ {A = ℕ} 99 114 = ap first_letter e in absurd (omega arith)
+spelling_injective (Cas m) (Cas n) p q e = ap Cas (decimal_injective m n p q cc)
+spelling_injective (Cas m) (Tick n) p q e = let first : ◌≡◌ {A = ℕ} 99 116 = ap first_letter e in absurd (omega arith)
 spelling_injective (Cas m) Next p q e = let first : ◌≡◌ {A = ℕ} 99 110 = ap first_letter e in absurd (omega arith)
+spelling_injective (Tick m) (Read n) p q e = let first : ◌≡◌ {A = ℕ} 116 114 = ap first_letter e in absurd (omega arith)
+spelling_injective (Tick m) (Cas n) p q e = let first : ◌≡◌ {A = ℕ} 116 99 = ap first_letter e in absurd (omega arith)
+spelling_injective (Tick m) (Tick n) p q e = ap Tick (decimal_injective m n p q cc)
+spelling_injective (Tick m) Next p q e = let first : ◌≡◌ {A = ℕ} 116 110 = ap first_letter e in absurd (omega arith)
 spelling_injective Next (Read n) p q e = let first : ◌≡◌ {A = ℕ} 110 114 = ap first_letter e in absurd (omega arith)
 spelling_injective Next (Cas n) p q e = let first : ◌≡◌ {A = ℕ} 110 99 = ap first_letter e in absurd (omega arith)
+spelling_injective Next (Tick n) p q e = let first : ◌≡◌ {A = ℕ} 110 116 = ap first_letter e in absurd (omega arith)
+spelling_injective Next Next p q e = refl
 
 -- ---- the numbers of a first line, one after the other
 

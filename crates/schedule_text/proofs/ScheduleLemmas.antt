@@ -1,9 +1,9 @@
 -- Lines decide their events.
-use Rattle.std.proofs.Common.{◌≡◌, ℕ, Bool, false, List, [], ◌∷◌, ◌++◌, refl, sym, ◌∙◌}
+use Rattle.std.proofs.Common.{◌≡◌, ℕ, Bool, List, [], ◌∷◌, ◌++◌, refl, sym, ◌∙◌}
 use Rattle.std.specs.Prelude.{◌||◌}
 use Rattle.schedule_text.specs.declared.event.Cluster.{Cluster}
 use Rattle.schedule_text.specs.declared.event.Event.{Event}
-use Rattle.schedule_text.specs.Schedules.{IsBuilt, IsBuiltFirst, AreBuilt, IsSchedule, is_cas, tried_after, LinesAreOne}
+use Rattle.schedule_text.specs.Schedules.{IsBuilt, IsBuiltFirst, AreBuilt, is_cas, tried_after, LinesAreOne}
 use Rattle.schedule_text.proofs.EventLemmas.{spelling_injective, cluster_spelling_injective}
 
 -- a built line is one event

@@ -1,10 +1,10 @@
 -- Words with single spaces between them, and numbers as words.
-use Rattle.std.proofs.Common.{◌≡◌, ◌≢◌, ℕ, ◌+◌, ◌<◌, ◌≤◌, ◌^◌, List, [], ◌∷◌, ◌++◌, length, take, get_or, arith, refl, sym, ◌∙◌, decimal}
+use Rattle.std.proofs.Common.{◌≡◌, ◌≢◌, ℕ, ◌+◌, ◌<◌, ◌^◌, List, [], ◌∷◌, ◌++◌, length, take, get_or, arith, refl, sym, ◌∙◌, decimal}
 use Rattle.std.specs.Str.Parse.{AllDigits}
 use Rattle.std.proofs.lemmas.Str.Parse.{numerals_by_value, tells_digits, digit_from_value}
 use Rattle.std.proofs.lemmas.Fmt.{digits_decimal, decimal_injective}
 use Rattle.std.proofs.lemmas.List.{take_more}
-use Rattle.schedule_text.specs.Words.{HasNoSpace, IsWithin, IsNoneWithin, IsNoneFirst}
+use Rattle.schedule_text.specs.Words.{HasNoSpace, IsNoneWithin, IsNoneFirst}
 
 pub HasNoSpace-push : (xs : List ℕ) (byte : ℕ) → HasNoSpace xs → byte ≢ 32 → HasNoSpace (xs ++ byte ∷ [])
 HasNoSpace-push [] byte p q = (q, tt)

@@ -1,7 +1,7 @@
 -- The lines of a schedule: which text spells which event. A text is an event where it equals the event's one spelling.
 use Rattle.std.specs.Prelude.{◌≡◌, ℕ, ◌<◌, ◌^◌, List, ◌∷◌, ◌++◌, codes, decimal, ⊤}
 use Rattle.schedule_text.specs.declared.event.Event.{Event}
-use Rattle.schedule_text.specs.declared.event.Event.TheVariants.{Read, Cas, Next}
+use Rattle.schedule_text.specs.declared.event.Event.TheVariants.{Read, Cas, Tick, Next}
 use Rattle.schedule_text.specs.declared.event.Cluster.{Cluster}
 use Rattle.schedule_text.specs.Words.{IsWithin}
 
@@ -26,12 +26,14 @@ pub record IsClusterInRange (c : Cluster) : Type 0 where
 abbrev pub spelling : Event → List ℕ
 spelling (Read server) = codes "read " ++ decimal server
 spelling (Cas server) = codes "cas " ++ decimal server
+spelling (Tick server) = codes "tick " ++ decimal server
 spelling Next = codes "next"
 
 -- the numbers of a line in form are 64-bit numbers
 abbrev pub HasNumbers : Event → Type 0
 HasNumbers (Read server) = server < 2 ^ 64
 HasNumbers (Cas server) = server < 2 ^ 64
+HasNumbers (Tick server) = server < 2 ^ 64
 HasNumbers Next = ⊤
 
 -- a line in form, whether or not its numbers are in range
@@ -43,4 +45,5 @@ pub record SpellsEvent (line : List ℕ) (event : Event) : Type 0 where
 abbrev pub IsInRange : Cluster → Event → Type 0
 IsInRange c (Read server) = IsWithin c.servers server
 IsInRange c (Cas server) = IsWithin c.servers server
+IsInRange c (Tick server) = IsWithin c.servers server
 IsInRange c Next = ⊤

@@ -2,18 +2,20 @@
 use Rattle.std.specs.Prelude.{◌≡◌, ℕ, ◌≤◌, Bool, true, false, ◌||◌, List, [], ◌∷◌, length, ⊤}
 use Rattle.schedule_text.specs.declared.event.Cluster.{Cluster}
 use Rattle.schedule_text.specs.declared.event.Event.{Event}
-use Rattle.schedule_text.specs.declared.event.Event.TheVariants.{Read, Cas, Next}
+use Rattle.schedule_text.specs.declared.event.Event.TheVariants.{Read, Cas, Tick, Next}
 use Rattle.schedule_text.specs.Events.{SpellsCluster, IsClusterInRange, SpellsEvent, IsInRange}
 
 abbrev pub is_cas : Event → Bool
 is_cas (Cas server) = true
 is_cas (Read server) = false
+is_cas (Tick server) = false
 is_cas Next = false
 
 -- Whether the event may come: a `cas` only where none was tried. tried says whether an earlier line is a `cas`.
 abbrev pub IsTaken : Bool → Event → Type 0
 IsTaken tried (Cas server) = tried ≡ false
 IsTaken tried (Read server) = ⊤
+IsTaken tried (Tick server) = ⊤
 IsTaken tried Next = ⊤
 
 -- a first line of this build, which runs one node, one server and one client

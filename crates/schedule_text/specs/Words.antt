@@ -1,5 +1,5 @@
 -- Words with single spaces between them, and numbers as words.
-use Rattle.std.specs.Prelude.{◌≡◌, ◌≢◌, ℕ, ◌≤◌, List, [], ◌∷◌, ◌++◌, decimal, ⊤}
+use Rattle.std.specs.Prelude.{◌≢◌, ℕ, ◌≤◌, List, [], ◌∷◌, ◌++◌, decimal, ⊤}
 
 -- no byte of these is a space
 abbrev pub HasNoSpace : List ℕ → Type 0

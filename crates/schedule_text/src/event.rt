@@ -15,6 +15,8 @@ pub enum Event {
     Read(u8),
     /// A server tries a compare-and-set from the number that it keeps.
     Cas(u8),
-    /// The envelope at the cursor is delivered.
+    /// A server sends its next message to each node that has one.
+    Tick(u8),
+    /// The envelope at the cursor is delivered, and the cursor goes on.
     Next,
 }

@@ -85,6 +85,17 @@ pub fn read_cluster(line: &[u8]) -> Option<Cluster>
     })
 }
 
+// The number from 1 to the most that follows this word and its space.
+fn numbered(line: &[u8], word: &[u8], most: u64) -> Option<u64>
+    ensures some { IfSome result (λ n. (line.now ≡ word.now ++ decimal n) × IsWithin most n) }
+    ensures none { IfNone result ((n : ℕ) → IsWithin most n → line.now ≢ word.now ++ decimal n) }
+{
+    let Some(text) = line.strip_prefix(word) else {
+        return None;
+    };
+    last_number(text, most)
+}
+
 /// The event that a further line spells, where its numbers are in the ranges of the cluster.
 pub fn read_event(line: &[u8], cluster: &Cluster) -> Option<Event>
     ensures some { IfSome result (λ event. SpellsEvent line.now event × IsInRange cluster.now event) }
@@ -94,17 +105,14 @@ pub fn read_event(line: &[u8], cluster: &Cluster) -> Option<Event>
     if line == b"next".as_slice() {
         return Some(Event::Next);
     }
-    if let Some(text) = line.strip_prefix(b"read ") {
-        return match last_number(text, servers) {
-            Some(server) => Some(Event::Read(server as u8)),
-            None => None,
-        };
+    if let Some(server) = numbered(line, b"read ", servers) {
+        return Some(Event::Read(server as u8));
     }
-    if let Some(text) = line.strip_prefix(b"cas ") {
-        return match last_number(text, servers) {
-            Some(server) => Some(Event::Cas(server as u8)),
-            None => None,
-        };
+    if let Some(server) = numbered(line, b"cas ", servers) {
+        return Some(Event::Cas(server as u8));
+    }
+    if let Some(server) = numbered(line, b"tick ", servers) {
+        return Some(Event::Tick(server as u8));
     }
     None
 }

@@ -38,6 +38,7 @@ fn a_server_is_one_of_the_cluster(rt: HostRuntime) {
     };
     assert_eq!(rt; read_event(b"read 2", &cluster), Some(Event::Read(2)));
     assert_eq!(rt; read_event(b"cas 1", &cluster), Some(Event::Cas(1)));
+    assert_eq!(rt; read_event(b"tick 2", &cluster), Some(Event::Tick(2)));
     assert_eq!(rt; read_event(b"next", &cluster), Some(Event::Next));
     let refused: [&[u8]; 7] = [
         b"read 3", b"read 0", b"read 02", b"cas", b"cas ", b"next ", b"reads 1",
@@ -49,7 +50,25 @@ fn a_server_is_one_of_the_cluster(rt: HostRuntime) {
 
 #[test]
 fn outcomes_print_as_their_lines(rt: HostRuntime) -> Result<(), Fail> {
+    let opened = Item {
+        number: 4,
+        from: Party::Node(1),
+        to: Party::Server(2),
+        brief: Brief::Opened(1, 0, 0, 0),
+    };
+    let staged = Item {
+        number: 5,
+        from: Party::Server(2),
+        to: Party::Node(3),
+        brief: Brief::Stage(2, 1, 8),
+    };
+    let items = Items::new(vec![in rt.alloc(); opened, staged]?);
     let lines = [
+        (
+            Outcome::Sent(items),
+            "sent 4 n1>s2 opened 1 0 0 0, 5 s2>n3 stage 2 1 8",
+        ),
+        (Outcome::Quiet, "quiet"),
         (Outcome::Read(0), "read 0"),
         (Outcome::Won(1), "won 1"),
         (Outcome::Lost(281474976710655), "lost 281474976710655"),

@@ -40,9 +40,11 @@ fn turn<S: Source>(
 {
     match next_event(source, input, &progress.world.cluster, progress.tried) {
         Ok(Next::Event(event)) => {
-            let outcome = progress.world.step(event);
+            let Ok(outcome) = progress.world.step(event) else {
+                return Err(End::Memory);
+            };
             progress.tried = progress.tried || is_cas(event);
-            match output.print(outcome) {
+            match output.print(&outcome) {
                 Ok(()) => Ok(()),
                 Err(_) => Err(End::Memory),
             }
@@ -94,7 +96,7 @@ pub fn replay<S: Source, W: Sink>(
         Err(end) => return end,
     };
     let mut progress = Progress {
-        world: World::new(cluster),
+        world: World::new(alloc, cluster),
         tried: false,
     };
     for event in 0..MAX_EVENTS {

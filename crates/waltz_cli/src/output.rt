@@ -30,8 +30,8 @@ impl Output {
     }
 
     /// Adds the line of an outcome.
-    pub fn print(&mut self, outcome: Outcome) -> Result<(), AllocError>
-        ensures ok { OnOk result (self.new.waiting.items ≡ self.old.waiting.items ++ outcome_line outcome) }
+    pub fn print(&mut self, outcome: &Outcome) -> Result<(), AllocError>
+        ensures ok { OnOk result (self.new.waiting.items ≡ self.old.waiting.items ++ outcome_line outcome.now) }
         ensures err { OnErr result (self.new.waiting.items ≡ self.old.waiting.items) }
     {
         self.line.clear();

@@ -153,7 +153,7 @@ fn events_that_are_not_built(rt: HostRuntime) -> Result<(), Fail> {
         b"next 1",
         b"Next",
         b"",
-        b"tick 1",
+        b"tick 2",
     ];
     for line in lines {
         let mut schedule = b"cluster 1 1 1 2 64\nnext\n".to_vec(rt.alloc())?;
@@ -162,6 +162,34 @@ fn events_that_are_not_built(rt: HostRuntime) -> Result<(), Fail> {
         expect(&rt, &schedule, 3, b"none\n! line 3 unbuilt\n".as_slice())?;
     }
     Ok(())
+}
+
+#[test]
+fn a_session_is_opened_and_adopted(rt: HostRuntime) -> Result<(), Fail> {
+    let schedule =
+        b"cluster 1 1 1 2 64\nread 1\ncas 1\ntick 1\nnext\nnext\ntick 1\nnext\nnext\ntick 1\nnext\n";
+    let text =
+        b"read 0\nwon 1\nsent 1 s1>n1 open 1\nsent 2 n1>s1 opened 1 0 0 0\nquiet\nsent 3 s1>n1 adopt 1 0\nsent 4 n1>s1 adopted 1 0\nquiet\nquiet\nnone\n";
+    expect(&rt, schedule.as_slice(), 0, text.as_slice())
+}
+
+#[test]
+fn an_idle_server_sends_nothing(rt: HostRuntime) -> Result<(), Fail> {
+    let schedule = b"cluster 1 1 1 2 64\ntick 1\nread 1\ntick 1\nnext\n";
+    expect(
+        &rt,
+        schedule.as_slice(),
+        0,
+        b"quiet\nread 0\nquiet\nnone\n".as_slice(),
+    )
+}
+
+#[test]
+fn a_message_that_is_sent_twice_is_answered_twice(rt: HostRuntime) -> Result<(), Fail> {
+    let schedule = b"cluster 1 1 1 2 64\nread 1\ncas 1\ntick 1\ntick 1\nnext\nnext\nnext\nnext\n";
+    let text =
+        b"read 0\nwon 1\nsent 1 s1>n1 open 1\nsent 2 s1>n1 open 1\nsent 3 n1>s1 opened 1 0 0 0\nsent 4 n1>s1 opened 1 0 0 0\nquiet\nquiet\n";
+    expect(&rt, schedule.as_slice(), 0, text.as_slice())
 }
 
 #[test]

@@ -1,0 +1,7 @@
+use Rattle.waltz_cli.proofs.NodeLemmas.{IsReplica-adopted}
+use Rattle.waltz_cli.proofs.node.Node.take_adopt.Goals as goal
+
+pub invariant_of-self-2 : goal.invariant_of-self-2
+invariant_of-self-2 c =
+    let appended = c.in_ok-append.ensures in
+    rw (appended.items, c.truncate.ensures.items, c.in_ok-reserve.ensures.items, appended.other_items) (IsReplica-adopted _ c.args.session c.self.invariant)
