@@ -1,2 +1,3 @@
 pub mod Transactions
 pub mod Records
+pub mod Spelling

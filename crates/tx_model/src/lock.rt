@@ -51,6 +51,15 @@ impl Lock {
         }
     }
 
+    /// The lock of bytes that are known to be a name, as a decoder has tested them.
+    pub fn of_name(alloc: Global, name: &[u8]) -> Result<Lock, AllocError>
+        requires { IsName name.now }
+        ensures { IfOk result (λ lock. lock ≡ name.now) }
+    {
+        let name = name.to_vec(alloc)?;
+        Ok(Lock { name })
+    }
+
     /// The bytes of the name.
     pub fn bytes(&self) -> &[u8]
         ensures value { result.now ≡ self.now }

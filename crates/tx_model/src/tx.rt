@@ -105,6 +105,42 @@ impl Tx {
         })
     }
 
+    /// The transaction with both lists as they stand, where all of it is known to be in form, as a decoder has tested it.
+    pub fn of_lists(
+        client: u64,
+        request: u64,
+        mark: u64,
+        reads: Vec<Lock>,
+        writes: Vec<Lock>,
+        payload: Vec<u8>,
+    ) -> Tx
+        requires { IsTransaction (record {
+          client = client;
+          request = request;
+          mark = mark;
+          reads = reads.items;
+          writes = writes.items;
+          payload = payload.items;
+        }) }
+        ensures { result ≡ record {
+          client = client;
+          request = request;
+          mark = mark;
+          reads = reads.items;
+          writes = writes.items;
+          payload = payload.items;
+        } }
+    {
+        Tx {
+            client,
+            request,
+            mark,
+            reads,
+            writes,
+            payload,
+        }
+    }
+
     pub fn client(&self) -> u64
         ensures { result ≡ self.now.client }
     {

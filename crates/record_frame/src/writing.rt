@@ -1,0 +1,95 @@
+//! Records as frames.
+ghost use Rattle.std.specs.Prelude.{◌≡◌, ◌+◌, ◌*◌, ◌≤◌, ◌++◌, length, OnOk, OnErr};
+ghost use Rattle.tx_model.specs.Records.{IsRecord};
+ghost use Rattle.tx_model.specs.Spelling.{spelled_names, spelled_locks, spelled_transaction, record_body, record_frame};
+
+use crate::framing::check_of;
+use std::alloc::{AllocError, Global};
+use tx_model::{Lock, Record, Tx};
+
+/// How many bytes spell the names.
+fn names_len(locks: &[Lock]) -> usize
+    requires { length locks.now ≤ 64 }
+    ensures len { result ≡ length (spelled_names locks.now) }
+    ensures short { result ≤ 65 * length locks.now }
+{
+    let mut len = 0;
+    for lock in locks {
+        len += 1 + lock.bytes().len();
+    }
+    len
+}
+
+/// The length of a record's body.
+pub fn body_len(entry: &Record) -> usize
+    ensures len { result ≡ length (record_body entry.now) }
+    ensures short { result ≤ 69743 }
+{
+    let reads = entry.tx.reads();
+    let writes = entry.tx.writes();
+    47 + names_len(reads) + names_len(writes) + entry.tx.payload().len()
+}
+
+fn put_names(into: &mut Vec<u8>, locks: &[Lock]) -> Result<(), AllocError>
+    ensures { OnOk result (into.new.items ≡ into.old.items ++ spelled_names locks.now) }
+{
+    for lock in locks {
+        let name = lock.bytes();
+        into.push(name.len() as u8)?;
+        into.extend_from_slice(name)?;
+    }
+    Ok(())
+}
+
+/// Adds how many read locks and write locks there are, and their names. On an error some of it may stand at the end.
+pub fn put_locks(into: &mut Vec<u8>, reads: &[Lock], writes: &[Lock]) -> Result<(), AllocError>
+    requires { length reads.now + length writes.now ≤ 64 }
+    ensures { OnOk result (into.new.items ≡ into.old.items ++ spelled_locks reads.now writes.now) }
+{
+    into.push(reads.len() as u8)?;
+    into.push(writes.len() as u8)?;
+    put_names(into, reads)?;
+    put_names(into, writes)?;
+    Ok(())
+}
+
+fn put_transaction(into: &mut Vec<u8>, tx: &Tx) -> Result<(), AllocError>
+    ensures { OnOk result (into.new.items ≡ into.old.items ++ spelled_transaction tx.now) }
+{
+    let reads = tx.reads();
+    let writes = tx.writes();
+    let payload = tx.payload();
+    into.extend_from_slice(&tx.client().to_be_bytes())?;
+    into.extend_from_slice(&tx.request().to_be_bytes())?;
+    into.extend_from_slice(&tx.mark().to_be_bytes())?;
+    put_locks(into, reads, writes)?;
+    into.extend_from_slice(&(payload.len() as u32).to_be_bytes())?;
+    into.extend_from_slice(payload)?;
+    Ok(())
+}
+
+/// Adds the body of a record. On an error some of it may stand at the end.
+pub fn put_record(into: &mut Vec<u8>, entry: &Record) -> Result<(), AllocError>
+    ensures { OnOk result (into.new.items ≡ into.old.items ++ record_body entry.now) }
+{
+    into.push(1)?;
+    into.extend_from_slice(&entry.id.to_be_bytes())?;
+    into.extend_from_slice(&entry.session.to_be_bytes())?;
+    put_transaction(into, &entry.tx)?;
+    Ok(())
+}
+
+/// Adds the one frame of a record. It is built apart and added at once.
+pub fn encode_record(alloc: Global, entry: &Record, into: &mut Vec<u8>) -> Result<(), AllocError>
+    requires { IsRecord entry.now }
+    ensures ok { OnOk result (into.new.items ≡ into.old.items ++ record_frame entry.now) }
+    ensures err { OnErr result (into.new.items ≡ into.old.items) }
+{
+    let len = body_len(entry);
+    let mut bytes = Vec::with_capacity(alloc, 12 + len)?;
+    bytes.extend_from_slice(&(len as u32).to_be_bytes())?;
+    put_record(&mut bytes, entry)?;
+    let check = check_of(&bytes);
+    bytes.extend_from_slice(&check)?;
+    into.extend_from_slice(&bytes)
+}
