@@ -1,35 +1,147 @@
 -- A text spells one event, and a first line one cluster.
-use Rattle.std.proofs.Common.{◌≡◌, ℕ, ◌<◌, ◌^◌, List, ◌∷◌, ◌++◌, get_or, arith, refl, sym, ◌∙◌, ap, decimal, codes}
+use Rattle.std.proofs.Common.{◌≡◌, ◌≢◌, ℕ, ◌+◌, ◌*◌, ◌<◌, ◌^◌, true, ltb, List, [], ◌∷◌, ◌++◌, arith, refl, sym, ◌∙◌, ap, subst, decimal, codes, Result, Err}
+use Rattle.std.specs.Prelude.{◌↔◌}
+use Rattle.std.specs.List.{AllByRecursion, list_all}
+use Rattle.std.proofs.lemmas.Bool.{and_parts}
+use Rattle.std.proofs.lemmas.Bool.Decides.{nat_tests}
 use Rattle.std.proofs.lemmas.Fmt.{decimal_injective}
+use Rattle.tx_model.specs.Applications.{IsKey}
 use Rattle.schedule_text.specs.declared.event.Event.{Event}
-use Rattle.schedule_text.specs.declared.event.Event.TheVariants.{Read, Cas, Tick, Next}
+use Rattle.schedule_text.specs.declared.event.Event.TheVariants.{Read, Cas, Tick, Next, Append, Ask, App}
 use Rattle.schedule_text.specs.declared.event.Cluster.{Cluster}
-use Rattle.schedule_text.specs.Events.{spelling, HasNumbers, SpellsCluster, IsClusterInRange, cluster_spelling}
-use Rattle.schedule_text.specs.Words.{IsWithin}
+use Rattle.schedule_text.specs.Events.{spelling, keys_spelling, ops_word, AreOps, HasForm, SpellsEvent, IsInRange, SpellsCluster, IsClusterInRange, cluster_spelling}
+use Rattle.schedule_text.specs.declared.parse.LineFault.{LineFault}
+use Rattle.schedule_text.specs.declared.parse.LineFault.TheVariants.{Bad}
+use Rattle.schedule_text.specs.Parts.{IsAppend, IsNoAppend}
+use Rattle.schedule_text.specs.Words.{IsWithin, HasNoSpace}
+use Rattle.schedule_text.proofs.KeyLemmas.{HasNoSpace-keys, keys_spelling_injective}
+use Rattle.schedule_text.proofs.AppendLemmas.{ops_word_injective}
 use Rattle.schedule_text.proofs.WordLemmas.{rest_same, parts_unique, HasNoSpace-decimal}
 
-first_letter : List ℕ → ℕ
-first_letter text = get_or text 0 0
+-- ---- a text spells one event: the first words differ, and then what stands behind them
+
+abbrev pub first_word : Event → List ℕ
+first_word (Read server) = codes "read"
+first_word (Cas server) = codes "cas"
+first_word (Tick server) = codes "tick"
+first_word Next = codes "next"
+first_word (Append client server writes reads ops) = codes "append"
+first_word (Ask client server) = codes "ask"
+first_word (App client) = codes "app"
+
+-- what stands behind the first word and its space, and a space
+abbrev pub behind : Event → List ℕ
+behind (Read server) = decimal server ++ 32 ∷ []
+behind (Cas server) = decimal server ++ 32 ∷ []
+behind (Tick server) = decimal server ++ 32 ∷ []
+behind Next = []
+behind (Append client server writes reads ops) =
+    (decimal client ++ 32 ∷ (decimal server ++ 32 ∷ (keys_spelling writes ++ 32 ∷ (keys_spelling reads ++ 32 ∷ ops_word ops)))) ++ 32 ∷ []
+behind (Ask client server) = (decimal client ++ 32 ∷ decimal server) ++ 32 ∷ []
+behind (App client) = decimal client ++ 32 ∷ []
+
+with_space : (event : Event) → spelling event ++ 32 ∷ [] ≡ first_word event ++ 32 ∷ behind event
+with_space (Read server) = refl
+with_space (Cas server) = refl
+with_space (Tick server) = refl
+with_space Next = refl
+with_space (Append client server writes reads ops) = refl
+with_space (Ask client server) = refl
+with_space (App client) = refl
+
+no_space : (word : List ℕ) → list_all (λ b. ltb 32 b) word ≡ true → HasNoSpace word
+no_space [] plain = tt
+no_space (b ∷ word) plain =
+    let parts = and_parts (ltb 32 b) (list_all (λ x. ltb 32 x) word) plain in
+    let above : 32 < b = grind (arith, nat_tests) in
+    ((λ e. absurd (omega (arith, e))), no_space word parts.1)
+
+HasNoSpace-first_word : (event : Event) → HasNoSpace (first_word event)
+HasNoSpace-first_word (Read server) = no_space (codes "read") refl
+HasNoSpace-first_word (Cas server) = no_space (codes "cas") refl
+HasNoSpace-first_word (Tick server) = no_space (codes "tick") refl
+HasNoSpace-first_word Next = no_space (codes "next") refl
+HasNoSpace-first_word (Append client server writes reads ops) = no_space (codes "append") refl
+HasNoSpace-first_word (Ask client server) = no_space (codes "ask") refl
+HasNoSpace-first_word (App client) = no_space (codes "app") refl
+
+same_first_word : (a b : Event) → spelling a ≡ spelling b → first_word a ≡ first_word b
+same_first_word a b same =
+    let parts = parts_unique (first_word a) (behind a) (first_word b) (behind b) (HasNoSpace-first_word a) (HasNoSpace-first_word b) (sym (with_space a) ∙ ap (λ t. t ++ 32 ∷ []) same ∙ with_space b) in
+    parts.0
+
+-- the first words as numbers, which differ
+abbrev pub word_number : List ℕ → ℕ
+word_number [] = 0
+word_number (b ∷ word) = b + 256 * word_number word
+
+-- a number and what follows it
+one_number : (m n : ℕ) (rest more : List ℕ) → m < 2 ^ 64 → n < 2 ^ 64 → decimal m ++ 32 ∷ rest ≡ decimal n ++ 32 ∷ more → (m ≡ n) × (rest ≡ more)
+one_number m n rest more small lesser same =
+    let parts = parts_unique (decimal m) rest (decimal n) more (HasNoSpace-decimal m small) (HasNoSpace-decimal n lesser) same in
+    (decimal_injective m n small lesser parts.0, parts.1)
+
+-- two keys' lists and the ops behind them
+append_values : (w r w' r' : List (List ℕ)) (o o' : List ℕ) → AllByRecursion IsKey w → AllByRecursion IsKey r → AllByRecursion IsKey w' → AllByRecursion IsKey r' → AreOps o → AreOps o' → keys_spelling w ++ 32 ∷ (keys_spelling r ++ 32 ∷ ops_word o) ≡ keys_spelling w' ++ 32 ∷ (keys_spelling r' ++ 32 ∷ ops_word o') → (w ≡ w') × (r ≡ r') × (o ≡ o')
+append_values w r w' r' o o' a b a' b' p p' same =
+    let writes = parts_unique (keys_spelling w) (keys_spelling r ++ 32 ∷ ops_word o) (keys_spelling w') (keys_spelling r' ++ 32 ∷ ops_word o') (HasNoSpace-keys w a) (HasNoSpace-keys w' a') same in
+    let reads = parts_unique (keys_spelling r) (ops_word o) (keys_spelling r') (ops_word o') (HasNoSpace-keys r b) (HasNoSpace-keys r' b') writes.1 in
+    (keys_spelling_injective w w' a a' writes.0, keys_spelling_injective r r' b b' reads.0, ops_word_injective o o' p p' reads.1)
 
 -- a text spells one event
-pub spelling_injective : (a b : Event) → HasNumbers a → HasNumbers b → spelling a ≡ spelling b → a ≡ b
-unfolding first_letter
+pub spelling_injective : (a b : Event) → HasForm a → HasForm b → spelling a ≡ spelling b → a ≡ b
 spelling_injective (Read m) (Read n) p q e = ap Read (decimal_injective m n p q cc)
-spelling_injective (Read m) (Cas n) p q e = let first : ◌≡◌ {A = ℕ} 114 99 = ap first_letter e in absurd (omega arith)
-spelling_injective (Read m) (Tick n) p q e = let first : ◌≡◌ {A = ℕ} 114 116 = ap first_letter e in absurd (omega arith)
-spelling_injective (Read m) Next p q e = let first : ◌≡◌ {A = ℕ} 114 110 = ap first_letter e in absurd (omega arith)
-spelling_injective (Cas m) (Read n) p q e = let first : ◌≡◌ {A = ℕ} 99 114 = ap first_letter e in absurd (omega arith)
 spelling_injective (Cas m) (Cas n) p q e = ap Cas (decimal_injective m n p q cc)
-spelling_injective (Cas m) (Tick n) p q e = let first : ◌≡◌ {A = ℕ} 99 116 = ap first_letter e in absurd (omega arith)
-spelling_injective (Cas m) Next p q e = let first : ◌≡◌ {A = ℕ} 99 110 = ap first_letter e in absurd (omega arith)
-spelling_injective (Tick m) (Read n) p q e = let first : ◌≡◌ {A = ℕ} 116 114 = ap first_letter e in absurd (omega arith)
-spelling_injective (Tick m) (Cas n) p q e = let first : ◌≡◌ {A = ℕ} 116 99 = ap first_letter e in absurd (omega arith)
 spelling_injective (Tick m) (Tick n) p q e = ap Tick (decimal_injective m n p q cc)
-spelling_injective (Tick m) Next p q e = let first : ◌≡◌ {A = ℕ} 116 110 = ap first_letter e in absurd (omega arith)
-spelling_injective Next (Read n) p q e = let first : ◌≡◌ {A = ℕ} 110 114 = ap first_letter e in absurd (omega arith)
-spelling_injective Next (Cas n) p q e = let first : ◌≡◌ {A = ℕ} 110 99 = ap first_letter e in absurd (omega arith)
-spelling_injective Next (Tick n) p q e = let first : ◌≡◌ {A = ℕ} 110 116 = ap first_letter e in absurd (omega arith)
 spelling_injective Next Next p q e = refl
+spelling_injective (App m) (App n) p q e = ap App (decimal_injective m n p q cc)
+spelling_injective (Ask c v) (Ask c' v') p q e =
+    let client = one_number c c' (decimal v) (decimal v') p.0 q.0 cc in
+    let server = decimal_injective v v' p.1 q.1 client.1 in
+    let same = client.0 in
+    cc
+spelling_injective (Append c v w r o) (Append c' v' w' r' o') p q e =
+    let client = one_number c c' (decimal v ++ 32 ∷ (keys_spelling w ++ 32 ∷ (keys_spelling r ++ 32 ∷ ops_word o))) (decimal v' ++ 32 ∷ (keys_spelling w' ++ 32 ∷ (keys_spelling r' ++ 32 ∷ ops_word o'))) p.client_fits q.client_fits cc in
+    let server = one_number v v' (keys_spelling w ++ 32 ∷ (keys_spelling r ++ 32 ∷ ops_word o)) (keys_spelling w' ++ 32 ∷ (keys_spelling r' ++ 32 ∷ ops_word o')) p.server_fits q.server_fits client.1 in
+    let values = append_values w r w' r' o o' p.write_keys p.read_keys q.write_keys q.read_keys p.ops_bytes q.ops_bytes server.1 in
+    let same_client = client.0 in
+    let same_server = server.0 in
+    let same_writes = values.0 in
+    let same_reads = values.1 in
+    let same_ops = values.2 in
+    cc
+spelling_injective a b p q e =
+    let same : ◌≡◌ {A = ℕ} (word_number (first_word a)) (word_number (first_word b)) = ap word_number (same_first_word a b e) in absurd (omega arith)
+
+-- ---- a line that no form without lists fits
+
+pub record IsNoPlain (line : List ℕ) (clients servers : ℕ) : Type 0 where
+  pub next : line ≢ codes "next"
+  pub tick : (n : ℕ) → IsWithin servers n → line ≢ codes "tick " ++ decimal n
+  pub ask : (c v : ℕ) → IsWithin clients c → IsWithin servers v → line ≢ codes "ask " ++ (decimal c ++ 32 ∷ decimal v)
+  pub app : (n : ℕ) → IsWithin clients n → line ≢ codes "app " ++ decimal n
+  pub read : (n : ℕ) → IsWithin servers n → line ≢ codes "read " ++ decimal n
+  pub cas : (n : ℕ) → IsWithin servers n → line ≢ codes "cas " ++ decimal n
+
+pub append_or_none : (line : List ℕ) (cluster : Cluster) → IsNoPlain line cluster.clients cluster.servers → (event : Event) → SpellsEvent line event → IsInRange cluster event → IsAppend event
+append_or_none line cluster none Next is range = absurd (none.next is.text)
+append_or_none line cluster none (Tick n) is range = absurd (none.tick n range is.text)
+append_or_none line cluster none (Ask c v) is range = absurd (none.ask c v range.0 range.1 is.text)
+append_or_none line cluster none (App n) is range = absurd (none.app n range is.text)
+append_or_none line cluster none (Read n) is range = absurd (none.read n range is.text)
+append_or_none line cluster none (Cas n) is range = absurd (none.cas n range is.text)
+append_or_none line cluster none (Append c v w r o) is range = tt
+
+-- a line whose first word is that of an append is no event where it is no append
+pub bad_line : (line text : List ℕ) (cluster : Cluster) (r : Result Event LineFault) → line ≡ codes "append " ++ text → ((event : Event) → SpellsEvent line event → IsInRange cluster event → IsAppend event) → (r ≡ Err Bad) ↔ IsNoAppend cluster text → (r ≡ Err Bad) ↔ ((event : Event) → SpellsEvent line event → ¬ IsInRange cluster event)
+bad_line line text cluster r front plain bad = (
+  λ is event spelled range. no_event (bad.0 is) event (plain event spelled range) spelled range,
+  λ none. bad.1 (λ c v w r o spelled range. none (Append c v w r o) (subst (λ t. SpellsEvent t (Append c v w r o)) (sym front) spelled) range),
+)
+  where
+    no_event : IsNoAppend cluster text → (event : Event) → IsAppend event → SpellsEvent line event → ¬ IsInRange cluster event
+    no_event none (Append c v w r o) is spelled range = none c v w r o (subst (λ t. SpellsEvent t (Append c v w r o)) front spelled) range
+    no_event none _ is spelled range = absurd is
 
 -- ---- the numbers of a first line, one after the other
 
@@ -59,12 +171,6 @@ at_rows text rest n c range same cut within = rest_same text rest (after_clients
 
 pub at_slots : (text rest : List ℕ) (n : ℕ) (c : Cluster) → IsClusterInRange c → text ≡ after_clients c → text ≡ decimal n ++ 32 ∷ rest → IsWithin 8 n → rest ≡ after_rows c
 at_slots text rest n c range same cut within = rest_same text rest (after_rows c) n c.rows (omega (arith, within.fits)) (omega (arith, range.rows.fits)) cut same
-
--- a number and what follows it
-one_number : (m n : ℕ) (rest more : List ℕ) → m < 2 ^ 64 → n < 2 ^ 64 → decimal m ++ 32 ∷ rest ≡ decimal n ++ 32 ∷ more → (m ≡ n) × (rest ≡ more)
-one_number m n rest more small lesser same =
-    let parts = parts_unique (decimal m) rest (decimal n) more (HasNoSpace-decimal m small) (HasNoSpace-decimal n lesser) same in
-    (decimal_injective m n small lesser parts.0, parts.1)
 
 same_cluster : (a b : Cluster) → a.nodes ≡ b.nodes → a.servers ≡ b.servers → a.clients ≡ b.clients → a.rows ≡ b.rows → a.slots ≡ b.slots → a ≡ b
 same_cluster a b nodes servers clients rows slots = same a.nodes b.nodes a.servers b.servers a.clients b.clients a.rows b.rows a.slots b.slots nodes servers clients rows slots

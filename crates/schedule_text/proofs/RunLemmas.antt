@@ -1,33 +1,37 @@
 -- Every run is sound, and a run goes on by one step.
-use Rattle.std.proofs.Common.{◌≡◌, ◌≢◌, ◌⊎◌, ℕ, zero, suc, ◌+◌, ◌<◌, ◌≤◌, ◌^◌, List, [], ◌∷◌, ◌++◌, arith, refl, Option, Some, None, lit<, slice_get, Bool, true, false, inl, inr, sym, ◌∙◌, ap, map}
+use Rattle.std.proofs.Common.{◌≡◌, ◌≢◌, ◌⊎◌, ℕ, zero, suc, ◌+◌, ◌<◌, ◌≤◌, ◌^◌, List, [], ◌∷◌, ◌++◌, arith, refl, Option, Some, None, lit<, slice_get, Bool, true, false, inl, inr, sym, ◌∙◌, ap, map, filter}
 use Rattle.std.specs.Prelude.{◌==◌, ◌&&◌, if◌then◌else◌}
 use Rattle.std.specs.List.{AllByRecursion}
 use Rattle.std.proofs.lemmas.Bool.Decides.{nat_tests}
 use Rattle.std.proofs.lemmas.List.{append-nil}
 use Rattle.schedule_text.specs.declared.event.Cluster.{Cluster}
 use Rattle.schedule_text.specs.declared.event.Event.{Event}
-use Rattle.schedule_text.specs.declared.event.Event.TheVariants.{Read, Cas, Tick, Next}
+use Rattle.schedule_text.specs.declared.event.Event.TheVariants.{Read, Cas, Tick, Next, Append, Ask, App}
 use Rattle.schedule_text.specs.declared.outcome.Outcome.{Outcome}
 use Rattle.schedule_text.specs.declared.outcome.Outcome.TheVariants.{Won}
 use Rattle.schedule_text.specs.declared.register.Cas.{Cas as CasAnswer}
 use Rattle.schedule_text.specs.declared.register.Cas.TheVariants.{Won as CasWon, Lost, Exhausted}
-use Rattle.schedule_text.specs.declared.message.Phase.TheVariants.{Idle}
-use Rattle.schedule_text.specs.declared.message.ToNode.{ToNode}
-use Rattle.schedule_text.specs.declared.message.FromNode.{FromNode}
+use Rattle.proto_model.specs.declared.message.Phase.TheVariants.{Idle}
+use Rattle.proto_model.specs.declared.message.ToNode.{ToNode}
+use Rattle.proto_model.specs.declared.message.FromNode.{FromNode}
+use Rattle.proto_model.specs.declared.client_message.ToServer.{ToServer}
+use Rattle.proto_model.specs.declared.client_message.FromServer.{FromServer}
 use Rattle.schedule_text.specs.declared.mail.Party.{Party}
 use Rattle.schedule_text.specs.declared.mail.Party.TheVariants as party
 use Rattle.schedule_text.specs.declared.mail.Mail.{Mail}
 use Rattle.schedule_text.specs.declared.mail.Mail.TheVariants as mail
 use Rattle.schedule_text.specs.declared.mail.Envelope.{Envelope}
-use Rattle.schedule_text.specs.Tables.{put}
-use Rattle.schedule_text.specs.Quorums.{is_within}
+use Rattle.proto_model.specs.Tables.{put}
+use Rattle.proto_model.specs.Quorums.{is_within}
 use Rattle.schedule_text.specs.Registers.{cas_answer, number_after, last_session}
-use Rattle.schedule_text.specs.Replicas.{replica_after}
-use Rattle.schedule_text.specs.Servers.{ServerState, drawn, server_after}
-use Rattle.schedule_text.specs.Worlds.{WorldState, WorldStep, start, setting_of, happens, outcome_of, after_cas, after_answer, outcome_of_cas, cas_outcome, with_sent, ticked, envelope_from, at_node, at_server, request_taken, reply_taken, taken, sends, delivered, delivery_outcome, sent_outcome, advanced, envelope_of}
+use Rattle.proto_model.specs.Replicas.{replica_after}
+use Rattle.proto_model.specs.Clients.{ClientState}
+use Rattle.proto_model.specs.Servers.{ServerState, Waiting, drawn, server_after, server_answers}
+use Rattle.proto_model.specs.Serving.{served_after, served_answers}
+use Rattle.schedule_text.specs.Worlds.{WorldState, WorldStep, start, setting_of, happens, outcome_of, after_cas, after_answer, outcome_of_cas, cas_outcome, with_sent, ticked, envelope_from, with_node, with_server, request_taken, reply_taken, wish_taken, answer_taken, told, is_client, answer_from, taken, sends, mail_outcome, got_outcome, delivered, delivery_outcome, sent_outcome, advanced, envelope_of, asked, submission, is_spent}
 use Rattle.schedule_text.specs.Runs.{IsRun, last_world, IsSoundWorld, HaveOwnSessions, WonAtMostOnce, EnvelopesStay, EveryRunIsSound}
-use Rattle.schedule_text.proofs.TableLemmas.{all_put, same_index, other_index, either, AllByRecursion-more, AllByRecursion-append, AllByRecursion-get, slice_get-append}
-use Rattle.schedule_text.proofs.StepLemmas.{asked_session, IsKnown, replica_known, server_session, server_idle, messages_of}
+use Rattle.proto_model.proofs.TableLemmas.{all_put, same_index, other_index, either, AllByRecursion-more, AllByRecursion-append, AllByRecursion-get, slice_get-append}
+use Rattle.schedule_text.proofs.StepLemmas.{asked_session, IsKnown, replica_known, server_session, server_idle, served_session, served_idle, messages_of}
 
 pub last_world-push : (old : WorldState) (worlds : List WorldState) (new : WorldState) → last_world old (worlds ++ new ∷ []) ≡ new
 last_world-push old [] new = refl
@@ -86,6 +90,8 @@ cas_wins number from session = same (number == from)
 abbrev IsAsked : ℕ → Mail → Type 0
 IsAsked number (mail.ToNode m) = asked_session m ≤ number
 IsAsked number (mail.FromNode m) = Unit {0}
+IsAsked number (mail.ToServer m) = Unit {0}
+IsAsked number (mail.FromServer m) = Unit {0}
 
 abbrev AreAsked : ℕ → List Envelope → Type 0
 AreAsked number sent = AllByRecursion (λ (e : Envelope). IsAsked number e.message) sent
@@ -101,6 +107,8 @@ pub record Holds (w : WorldState) : Type 0 where
 asked_more : (m n : ℕ) → m ≤ n → (mail : Mail) → IsAsked m mail → IsAsked n mail
 asked_more m n less (mail.ToNode a) is = omega (arith, less, is)
 asked_more m n less (mail.FromNode a) is = tt
+asked_more m n less (mail.ToServer a) is = tt
+asked_more m n less (mail.FromServer a) is = tt
 
 -- a server that has no other's session
 own_put : (f : ℕ → ServerState) (i : ℕ) (x : ServerState) → HaveOwnSessions f → ((v : ℕ) → v ≢ i → x.phase ≢ Idle → (f v).phase ≢ Idle → x.session ≢ (f v).session) → HaveOwnSessions (put f i x)
@@ -195,7 +203,7 @@ asked_from server number s [] small all = tt
 asked_from server number s (m ∷ messages) small all = (omega (arith, all.0, small), asked_from server number s messages small all.1)
 
 -- a node takes a message
-node_holds : (w : WorldState) (i : ℕ) (m : ToNode) → Holds w → asked_session m ≤ w.number → Holds (at_node w i m)
+node_holds : (w : WorldState) (i : ℕ) (m : ToNode) → Holds w → asked_session m ≤ w.number → Holds (with_node w i (replica_after (w.nodes i) m))
 node_holds w i m holds small = record {
   number = holds.number;
   kept = holds.kept;
@@ -205,18 +213,17 @@ node_holds w i m holds small = record {
   sent = holds.sent;
 }
 
--- a server takes a reply
-server_holds : (w : WorldState) (v i : ℕ) (m : FromNode) → Holds w → Holds (at_server w v i m)
-server_holds w v i m holds =
-    let same = server_session (setting_of w.cluster) (w.servers v) i m in record {
-      number = holds.number;
-      kept = holds.kept;
-      nodes = holds.nodes;
-      servers = all_put (λ (sv : ServerState). sv.session ≤ w.number) w.servers v (server_after (setting_of w.cluster) (w.servers v) i m) (omega (arith, same, holds.servers v)) holds.servers;
-      sessions = own_put w.servers v (server_after (setting_of w.cluster) (w.servers v) i m) holds.sessions
-          (λ u other p q is. holds.sessions v u (λ e. other (sym e)) (λ idle. p (server_idle (setting_of w.cluster) (w.servers v) i m idle)) q (sym same ∙ is));
-      sent = holds.sent;
-    }
+-- a server changes, and its session doesn't
+server_holds : (w : WorldState) (v : ℕ) (sv : ServerState) → Holds w → sv.session ≡ (w.servers v).session → ((w.servers v).phase ≡ Idle → sv.phase ≡ Idle) → Holds (with_server w v sv)
+server_holds w v sv holds same idle = record {
+  number = holds.number;
+  kept = holds.kept;
+  nodes = holds.nodes;
+  servers = all_put (λ (x : ServerState). x.session ≤ w.number) w.servers v sv (omega (arith, same, holds.servers v)) holds.servers;
+  sessions = own_put w.servers v sv holds.sessions
+      (λ u other p q is. holds.sessions v u (λ e. other (sym e)) (λ none. p (idle none)) q (sym same ∙ is));
+  sent = holds.sent;
+}
 
 request_holds : (w : WorldState) (to : Party) (m : ToNode) → Holds w → asked_session m ≤ w.number → Holds (request_taken w to m)
 request_holds w (party.Node i) m holds small = either Holds (is_within w.cluster.nodes i) _ _ (node_holds w i m holds small) holds
@@ -224,21 +231,43 @@ request_holds w (party.Server v) m holds small = holds
 request_holds w (party.Client c) m holds small = holds
 
 reply_holds : (w : WorldState) (from to : Party) (m : FromNode) → Holds w → Holds (reply_taken w from to m)
-reply_holds w (party.Node i) (party.Server v) m holds = either Holds (is_within w.cluster.nodes i && is_within w.cluster.servers v) _ _ (server_holds w v i m holds) holds
+reply_holds w (party.Node i) (party.Server v) m holds =
+    let c = setting_of w.cluster in
+    either Holds (is_within w.cluster.nodes i && is_within w.cluster.servers v) _ _
+    (server_holds w v (server_after c (w.servers v) i m) holds (server_session c (w.servers v) i m) (server_idle c (w.servers v) i m)) holds
 reply_holds w (party.Node i) (party.Node j) m holds = holds
 reply_holds w (party.Node i) (party.Client c) m holds = holds
 reply_holds w (party.Server u) to m holds = holds
 reply_holds w (party.Client c) to m holds = holds
 
+wish_holds : (w : WorldState) (to : Party) (m : ToServer) → Holds w → Holds (wish_taken w to m)
+wish_holds w (party.Server v) m holds =
+    let c = setting_of w.cluster in
+    either Holds (is_within w.cluster.servers v) _ _
+    (server_holds w v (served_after c (w.servers v) m) holds (served_session c (w.servers v) m) (served_idle c (w.servers v) m)) holds
+wish_holds w (party.Node i) m holds = holds
+wish_holds w (party.Client c) m holds = holds
+
+-- clients are no part of it
+clients_hold : (w : WorldState) (clients : ℕ → ClientState) → Holds w → Holds (record w { clients = clients })
+clients_hold w clients holds = record { number = holds.number; kept = holds.kept; nodes = holds.nodes; servers = holds.servers; sessions = holds.sessions; sent = holds.sent }
+
+answer_holds : (w : WorldState) (to : Party) (m : FromServer) → Holds w → Holds (answer_taken w to m)
+answer_holds w (party.Client c) m holds = either Holds (is_within w.cluster.clients c) _ _ (clients_hold w _ holds) holds
+answer_holds w (party.Node i) m holds = holds
+answer_holds w (party.Server v) m holds = holds
+
 taken_holds : (w : WorldState) (from to : Party) (m : Mail) → Holds w → IsAsked w.number m → Holds (taken w from to m)
 taken_holds w from to (mail.ToNode m) holds asked = request_holds w to m holds asked
 taken_holds w from to (mail.FromNode m) holds asked = reply_holds w from to m holds
+taken_holds w from to (mail.ToServer m) holds asked = wish_holds w to m holds
+taken_holds w from to (mail.FromServer m) holds asked = answer_holds w to m holds
 
 -- a delivery leaves the number and the envelopes
-abbrev HasSame : WorldState → WorldState → Type 0
+abbrev pub HasSame : WorldState → WorldState → Type 0
 HasSame w x = (x.number ≡ w.number) × (x.sent ≡ w.sent)
 
-taken_same : (w : WorldState) (from to : Party) (m : Mail) → HasSame w (taken w from to m)
+pub taken_same : (w : WorldState) (from to : Party) (m : Mail) → HasSame w (taken w from to m)
 taken_same w from (party.Node i) (mail.ToNode m) = either (HasSame w) (is_within w.cluster.nodes i) _ _ (refl, refl) (refl, refl)
 taken_same w from (party.Server v) (mail.ToNode m) = (refl, refl)
 taken_same w from (party.Client c) (mail.ToNode m) = (refl, refl)
@@ -247,13 +276,39 @@ taken_same w (party.Node i) (party.Node j) (mail.FromNode m) = (refl, refl)
 taken_same w (party.Node i) (party.Client c) (mail.FromNode m) = (refl, refl)
 taken_same w (party.Server u) to (mail.FromNode m) = (refl, refl)
 taken_same w (party.Client c) to (mail.FromNode m) = (refl, refl)
+taken_same w from (party.Server v) (mail.ToServer m) = either (HasSame w) (is_within w.cluster.servers v) _ _ (refl, refl) (refl, refl)
+taken_same w from (party.Node i) (mail.ToServer m) = (refl, refl)
+taken_same w from (party.Client c) (mail.ToServer m) = (refl, refl)
+taken_same w from (party.Client c) (mail.FromServer m) = either (HasSame w) (is_within w.cluster.clients c) _ _ (refl, refl) (refl, refl)
+taken_same w from (party.Node i) (mail.FromServer m) = (refl, refl)
+taken_same w from (party.Server v) (mail.FromServer m) = (refl, refl)
 
 -- what a delivery sends asks for nothing
+
+told_asked : (number v : ℕ) (waiting : List Waiting) → AreAsked number (map (told v) waiting)
+told_asked number v [] = tt
+told_asked number v (x ∷ waiting) = (tt, told_asked number v waiting)
+
+answers_asked : (number v : ℕ) (asker : Party) (answers : List FromServer) → AreAsked number (map (answer_from v asker) answers)
+answers_asked number v asker [] = tt
+answers_asked number v asker (x ∷ answers) = (tt, answers_asked number v asker answers)
+
 sends_asked : (w : WorldState) (from to : Party) (m : Mail) (number : ℕ) → AreAsked number (sends w from to m)
 sends_asked w from (party.Node i) (mail.ToNode m) number = either (AreAsked number) (is_within w.cluster.nodes i) _ _ (tt, tt) tt
 sends_asked w from (party.Server v) (mail.ToNode m) number = tt
 sends_asked w from (party.Client c) (mail.ToNode m) number = tt
-sends_asked w from to (mail.FromNode m) number = tt
+sends_asked w (party.Node i) (party.Server v) (mail.FromNode m) number =
+    either (AreAsked number) (is_within w.cluster.nodes i && is_within w.cluster.servers v) _ _
+    (told_asked number v (filter (is_client w) (server_answers (setting_of w.cluster) (w.servers v) i m))) tt
+sends_asked w (party.Node i) (party.Node j) (mail.FromNode m) number = tt
+sends_asked w (party.Node i) (party.Client c) (mail.FromNode m) number = tt
+sends_asked w (party.Server u) to (mail.FromNode m) number = tt
+sends_asked w (party.Client c) to (mail.FromNode m) number = tt
+sends_asked w from (party.Server v) (mail.ToServer m) number =
+    either (AreAsked number) (is_within w.cluster.servers v) _ _ (answers_asked number v from (served_answers (setting_of w.cluster) (w.servers v) m)) tt
+sends_asked w from (party.Node i) (mail.ToServer m) number = tt
+sends_asked w from (party.Client c) (mail.ToServer m) number = tt
+sends_asked w from to (mail.FromServer m) number = tt
 
 advanced_holds : (w : WorldState) → Holds w → Holds (record w { cursor = w.cursor + 1 })
 advanced_holds w holds = record { number = holds.number; kept = holds.kept; nodes = holds.nodes; servers = holds.servers; sessions = holds.sessions; sent = holds.sent }
@@ -294,6 +349,13 @@ happens_keeps w (Tick server) holds =
     sent_keeps w (ticked w server) holds (asked_from server w.number (w.servers server).session _ (holds.servers server) (messages_of (setting_of w.cluster) (w.servers server) w.cluster.nodes))
 happens_keeps w Next holds =
     next_keeps w (envelope_of w w.cursor) holds (λ e is. AllByRecursion-get (λ (x : Envelope). IsAsked w.number x.message) w.sent _ e holds.sent is)
+happens_keeps w (Append client server writes reads ops) holds =
+    let e : Envelope = submission w client server writes reads ops in
+    either (Keeps w) (is_spent (w.clients client)) _ _ (record { holds = holds; no_less = omega arith; more = []; sent = sym (append-nil w.sent) })
+    (let after = sent_keeps (record w { clients = _ }) (e ∷ []) (clients_hold w _ holds) (tt, tt) in
+    record { holds = after.holds; no_less = omega arith; more = e ∷ []; sent = refl })
+happens_keeps w (Ask client server) holds = sent_keeps w _ holds (tt, tt)
+happens_keeps w (App client) holds = record { holds = holds; no_less = omega arith; more = []; sent = sym (append-nil w.sent) }
 
 step_keeps : (old : WorldState) (event : Event) (outcome : Outcome) (new : WorldState) → Holds old → WorldStep old event outcome new → Keeps old new
 step_keeps old event outcome new holds step = rw step.new_is (happens_keeps old event holds)
@@ -304,9 +366,20 @@ not_won : (w : WorldState) (envelopes : List Envelope) (session : ℕ) → sent_
 not_won w [] session is = cc
 not_won w (e ∷ envelopes) session is = cc
 
+got_not_won : (w : WorldState) (to : Party) (m : FromServer) (session : ℕ) → got_outcome w to m ≡ Won session → ⊥
+got_not_won w (party.Client c) m session = either (λ (o : Outcome). o ≡ Won session → ⊥) (is_within w.cluster.clients c) _ _ (λ is. cc) (λ is. cc)
+got_not_won w (party.Node i) m session = λ is. cc
+got_not_won w (party.Server v) m session = λ is. cc
+
+mail_not_won : (w : WorldState) (from to : Party) (m : Mail) (session : ℕ) → mail_outcome w from to m ≡ Won session → ⊥
+mail_not_won w from to (mail.FromServer m) session is = got_not_won w to m session is
+mail_not_won w from to (mail.ToNode m) session is = not_won w _ session is
+mail_not_won w from to (mail.FromNode m) session is = not_won w _ session is
+mail_not_won w from to (mail.ToServer m) session is = not_won w _ session is
+
 delivery_not_won : (w : WorldState) (found : Option Envelope) (session : ℕ) → delivery_outcome w found ≡ Won session → ⊥
 delivery_not_won w None session is = cc
-delivery_not_won w (Some e) session is = not_won w (sends w e.from e.to e.message) session is
+delivery_not_won w (Some e) session is = mail_not_won w e.from e.to e.message session is
 
 cas_answer_wins : (w : WorldState) (server session : ℕ) (answer : CasAnswer) → cas_outcome answer ≡ Won session → (after_answer w server answer).number ≡ session
 cas_answer_wins w server session (CasWon x) is = cc
@@ -317,6 +390,10 @@ wins : (w : WorldState) (event : Event) (session : ℕ) → outcome_of w event �
 wins w (Read server) session won = cc
 wins w (Tick server) session won = absurd (not_won w (ticked w server) session won)
 wins w Next session won = absurd (delivery_not_won w (envelope_of w w.cursor) session won)
+wins w (Append client server writes reads ops) session won =
+    absurd (either (λ (o : Outcome). o ≡ Won session → ⊥) (is_spent (w.clients client)) _ _ (λ is. cc) (λ is. cc) won)
+wins w (Ask client server) session won = cc
+wins w (App client) session won = cc
 wins w (Cas server) session won = with_kept (w.kept server) won
   where
     with_kept : (kept : Option ℕ) → outcome_of_cas w kept ≡ Won session → (w.number < session) × ((after_cas w server kept).number ≡ session)

@@ -8,7 +8,7 @@ use Rattle.schedule_text.proofs.EventLemmas.{spelling_injective, cluster_spellin
 
 -- a built line is one event
 pub one_event : (cluster : Cluster) (tried : Bool) (line : List ℕ) (a b : Event) → IsBuilt cluster tried line a → IsBuilt cluster tried line b → a ≡ b
-one_event cluster tried line a b p q = spelling_injective a b p.text.numbers q.text.numbers (sym p.text.text ∙ q.text.text)
+one_event cluster tried line a b p q = spelling_injective a b p.text.form q.text.form (sym p.text.text ∙ q.text.text)
 
 -- and a built first line one cluster
 pub one_cluster : (line : List ℕ) (a b : Cluster) → IsBuiltFirst line a → IsBuiltFirst line b → a ≡ b

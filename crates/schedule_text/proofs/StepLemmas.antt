@@ -1,20 +1,25 @@
 -- What the steps of nodes and servers keep.
-use Rattle.std.proofs.Common.{◌≡◌, ℕ, zero, suc, ◌+◌, ◌-◌, ◌≤◌, List, [], ◌++◌, Bool, true, false, arith, refl, Option, Some, None, min, take, drop, length}
+use Rattle.std.proofs.Common.{◌≡◌, ℕ, zero, suc, ◌+◌, ◌-◌, ◌≤◌, List, [], ◌++◌, Bool, true, false, arith, refl, sym, subst, Option, Some, None, min, take, drop, length}
 use Rattle.std.specs.Prelude.{◌==◌, nat_lt, nat_le, not, if◌then◌else◌}
 use Rattle.std.specs.List.{AllByRecursion}
 use Rattle.std.proofs.lemmas.Bool.Decides.{nat_tests}
 use Rattle.tx_model.specs.declared.record.Record.{Record}
 use Rattle.tx_model.specs.Records.{first_id}
-use Rattle.schedule_text.specs.declared.message.Phase.{Phase}
-use Rattle.schedule_text.specs.declared.message.Phase.TheVariants.{Idle, Opening, Fetching, Repairing, Running, Closed}
-use Rattle.schedule_text.specs.declared.message.ToNode.{ToNode}
-use Rattle.schedule_text.specs.declared.message.ToNode.TheVariants.{Open, Fetch, Stage, Adopt, Append, Low}
-use Rattle.schedule_text.specs.declared.message.FromNode.{FromNode}
-use Rattle.schedule_text.specs.declared.message.FromNode.TheVariants.{Opened, Stale, Unopened, Records, Staged, StageAt, Adopted, Acked, Gap, NotAdopted, LowSet}
-use Rattle.schedule_text.specs.Replicas.{ReplicaState, replica_after, opened, staged_after, adopted_after, appended_after, lowered_after, if_promised, next_staged, grown}
-use Rattle.schedule_text.specs.Servers.{Setting, ServerState, server_after, received, is_heard, after_staged, base, commit_mark, chosen, is_of}
-use Rattle.schedule_text.specs.Sending.{next_message, next_messages, one_message, message_in, chosen_message, append_message, repair_message}
-use Rattle.schedule_text.proofs.TableLemmas.{either, AllByRecursion-append}
+use Rattle.proto_model.specs.declared.message.Phase.{Phase}
+use Rattle.proto_model.specs.declared.message.Phase.TheVariants.{Idle, Opening, Fetching, Repairing, Running, Closed}
+use Rattle.proto_model.specs.declared.message.ToNode.{ToNode}
+use Rattle.proto_model.specs.declared.message.ToNode.TheVariants.{Open, Fetch, Stage, Adopt, Append, Low}
+use Rattle.proto_model.specs.declared.message.FromNode.{FromNode}
+use Rattle.proto_model.specs.declared.message.FromNode.TheVariants.{Opened, Stale, Unopened, Records, Staged, StageAt, Adopted, Acked, Gap, NotAdopted, LowSet}
+use Rattle.proto_model.specs.Replicas.{ReplicaState, replica_after, opened, staged_after, adopted_after, appended_after, lowered_after, if_promised, next_staged, grown}
+use Rattle.proto_model.specs.Servers.{Setting, ServerState, server_after, received, is_heard, after_staged, base, commit_mark, chosen, is_of}
+use Rattle.tx_model.specs.Transactions.{Transaction}
+use Rattle.proto_model.specs.declared.refusal.Refusal.{Refusal}
+use Rattle.proto_model.specs.declared.client_message.ToServer.{ToServer}
+use Rattle.proto_model.specs.declared.client_message.ToServer.TheVariants as wish
+use Rattle.proto_model.specs.Serving.{served_after, if_taken, assigned, append_refusal, refusal_in, running_refusal}
+use Rattle.proto_model.specs.Sending.{next_message, next_messages, one_message, message_in, chosen_message, append_message, repair_message}
+use Rattle.proto_model.proofs.TableLemmas.{either, AllByRecursion-append}
 
 -- the session of a message to a node
 abbrev pub asked_session : ToNode → ℕ
@@ -115,6 +120,28 @@ pub server_idle : (c : Setting) (sv : ServerState) (i : ℕ) (m : FromNode) → 
 server_idle c sv i m idle =
     let quiet : is_heard sv m ≡ false = rw idle refl in
     rw quiet idle
+
+-- ---- a client's request
+
+taken_session : (sv : ServerState) (tx : Transaction) (refusal : Option Refusal) → (if_taken refusal sv (assigned sv tx)).session ≡ sv.session
+taken_session sv tx None = refl
+taken_session sv tx (Some r) = refl
+
+-- it leaves the session
+pub served_session : (c : Setting) (sv : ServerState) (m : ToServer) → (served_after c sv m).session ≡ sv.session
+served_session c sv (wish.Append tx) = taken_session sv tx (append_refusal c sv tx)
+served_session c sv (wish.Feed from max) = refl
+served_session c sv (wish.Get id) = refl
+served_session c sv wish.Flush = refl
+
+-- and an idle server idle
+pub served_idle : (c : Setting) (sv : ServerState) (m : ToServer) → sv.phase ≡ Idle → (served_after c sv m).phase ≡ Idle
+served_idle c sv (wish.Append tx) idle =
+    let P : Phase → Type 0 = λ p. (if_taken (refusal_in p (running_refusal c sv tx)) sv (assigned sv tx)).phase ≡ Idle in
+    subst P (sym idle) idle
+served_idle c sv (wish.Feed from max) idle = idle
+served_idle c sv (wish.Get id) idle = idle
+served_idle c sv wish.Flush idle = idle
 
 -- ---- its messages
 

@@ -49,3 +49,8 @@ pub rest_same : (text rest more : List ℕ) (m n : ℕ) → m < 2 ^ 64 → n < 2
 rest_same text rest more m n small lesser p q =
     let parts = parts_unique (decimal m) rest (decimal n) more (HasNoSpace-decimal m small) (HasNoSpace-decimal n lesser) (sym p ∙ q) in
     parts.1
+
+-- what stands behind the same word
+pub cancel : (word a b : List ℕ) → word ++ a ≡ word ++ b → a ≡ b
+cancel [] a b same = same
+cancel (x ∷ word) a b same = cancel word a b cc

@@ -1,7 +1,9 @@
 -- The lines of a schedule: which text spells which event. A text is an event where it equals the event's one spelling.
-use Rattle.std.specs.Prelude.{◌≡◌, ℕ, ◌<◌, ◌^◌, List, ◌∷◌, ◌++◌, codes, decimal, ⊤}
+use Rattle.std.specs.Prelude.{◌≡◌, ◌≢◌, ℕ, ◌<◌, ◌≤◌, ◌^◌, List, [], ◌∷◌, ◌++◌, codes, decimal, flat_map, ⊤}
+use Rattle.std.specs.List.{AllByRecursion}
+use Rattle.tx_model.specs.Applications.{IsKey}
 use Rattle.schedule_text.specs.declared.event.Event.{Event}
-use Rattle.schedule_text.specs.declared.event.Event.TheVariants.{Read, Cas, Tick, Next}
+use Rattle.schedule_text.specs.declared.event.Event.TheVariants.{Read, Cas, Tick, Next, Append, Ask, App}
 use Rattle.schedule_text.specs.declared.event.Cluster.{Cluster}
 use Rattle.schedule_text.specs.Words.{IsWithin}
 
@@ -21,6 +23,31 @@ pub record IsClusterInRange (c : Cluster) : Type 0 where
   pub rows : IsWithin 8 c.rows
   pub slots : IsWithin 4096 c.slots
 
+-- ---- lists of keys, and ops
+
+abbrev pub next_key : List ℕ → List ℕ
+next_key key = 44 ∷ key
+
+-- keys with a comma between them, or a hyphen for none
+abbrev pub keys_spelling : List (List ℕ) → List ℕ
+keys_spelling [] = codes "-"
+keys_spelling (key ∷ keys) = key ++ flat_map next_key keys
+
+-- the ops as they stand, or a hyphen for none
+abbrev pub ops_word : List ℕ → List ℕ
+ops_word [] = codes "-"
+ops_word (b ∷ bytes) = b ∷ bytes
+
+-- a byte of ops: from the space to the tilde
+pub record IsOpsByte (b : ℕ) : Type 0 where
+  pub least : 32 ≤ b
+  pub most : b ≤ 126
+
+-- bytes to the end of the line, other than a hyphen alone
+pub record AreOps (ops : List ℕ) : Type 0 where
+  pub bytes : AllByRecursion IsOpsByte ops
+  pub other : ops ≢ codes "-"
+
 -- ---- every further line
 
 abbrev pub spelling : Event → List ℕ
@@ -28,18 +55,32 @@ spelling (Read server) = codes "read " ++ decimal server
 spelling (Cas server) = codes "cas " ++ decimal server
 spelling (Tick server) = codes "tick " ++ decimal server
 spelling Next = codes "next"
+spelling (Append client server writes reads ops) =
+    codes "append " ++ (decimal client ++ 32 ∷ (decimal server ++ 32 ∷ (keys_spelling writes ++ 32 ∷ (keys_spelling reads ++ 32 ∷ ops_word ops))))
+spelling (Ask client server) = codes "ask " ++ (decimal client ++ 32 ∷ decimal server)
+spelling (App client) = codes "app " ++ decimal client
 
--- the numbers of a line in form are 64-bit numbers
-abbrev pub HasNumbers : Event → Type 0
-HasNumbers (Read server) = server < 2 ^ 64
-HasNumbers (Cas server) = server < 2 ^ 64
-HasNumbers (Tick server) = server < 2 ^ 64
-HasNumbers Next = ⊤
+-- the values of a line in form: numbers of 64 bits, keys, and ops
+pub record IsAppendForm (client server : ℕ) (writes reads : List (List ℕ)) (ops : List ℕ) : Type 0 where
+  pub client_fits : client < 2 ^ 64
+  pub server_fits : server < 2 ^ 64
+  pub write_keys : AllByRecursion IsKey writes
+  pub read_keys : AllByRecursion IsKey reads
+  pub ops_bytes : AreOps ops
+
+abbrev pub HasForm : Event → Type 0
+HasForm (Read server) = server < 2 ^ 64
+HasForm (Cas server) = server < 2 ^ 64
+HasForm (Tick server) = server < 2 ^ 64
+HasForm Next = ⊤
+HasForm (Append client server writes reads ops) = IsAppendForm client server writes reads ops
+HasForm (Ask client server) = (client < 2 ^ 64) × (server < 2 ^ 64)
+HasForm (App client) = client < 2 ^ 64
 
 -- a line in form, whether or not its numbers are in range
 pub record SpellsEvent (line : List ℕ) (event : Event) : Type 0 where
   pub text : line ≡ spelling event
-  pub numbers : HasNumbers event
+  pub form : HasForm event
 
 -- the numbers are in the ranges of the cluster
 abbrev pub IsInRange : Cluster → Event → Type 0
@@ -47,3 +88,6 @@ IsInRange c (Read server) = IsWithin c.servers server
 IsInRange c (Cas server) = IsWithin c.servers server
 IsInRange c (Tick server) = IsWithin c.servers server
 IsInRange c Next = ⊤
+IsInRange c (Append client server writes reads ops) = IsWithin c.clients client × IsWithin c.servers server
+IsInRange c (Ask client server) = IsWithin c.clients client × IsWithin c.servers server
+IsInRange c (App client) = IsWithin c.clients client

@@ -1,14 +1,11 @@
 pub mod Words
 pub mod Events
+pub mod Parts
 pub mod Mails
 pub mod Outcomes
-pub mod Tables
-pub mod Quorums
-pub mod Choices
-pub mod Replicas
-pub mod Servers
-pub mod Sending
 pub mod Registers
 pub mod Worlds
+pub mod OneLog
+pub mod Safety
 pub mod Runs
 pub mod Schedules

@@ -1,10 +1,14 @@
 -- What is printed of a message.
 use Rattle.std.specs.Prelude.{ℕ, ◌+◌, List, [], ◌∷◌, length}
 use Rattle.tx_model.specs.Records.{first_id}
-use Rattle.schedule_text.specs.declared.message.ToNode.{ToNode}
-use Rattle.schedule_text.specs.declared.message.ToNode.TheVariants as ask
-use Rattle.schedule_text.specs.declared.message.FromNode.{FromNode}
-use Rattle.schedule_text.specs.declared.message.FromNode.TheVariants as reply
+use Rattle.proto_model.specs.declared.message.ToNode.{ToNode}
+use Rattle.proto_model.specs.declared.message.ToNode.TheVariants as ask
+use Rattle.proto_model.specs.declared.message.FromNode.{FromNode}
+use Rattle.proto_model.specs.declared.message.FromNode.TheVariants as reply
+use Rattle.proto_model.specs.declared.client_message.ToServer.{ToServer}
+use Rattle.proto_model.specs.declared.client_message.ToServer.TheVariants as wish
+use Rattle.proto_model.specs.declared.client_message.FromServer.{FromServer}
+use Rattle.proto_model.specs.declared.client_message.FromServer.TheVariants as answer
 use Rattle.schedule_text.specs.declared.mail.Mail.{Mail}
 use Rattle.schedule_text.specs.declared.mail.Mail.TheVariants as mail
 use Rattle.schedule_text.specs.declared.mail.Envelope.{Envelope}
@@ -33,9 +37,26 @@ reply_brief (reply.Gap s len) = brief.Gap s len
 reply_brief (reply.NotAdopted s adopted) = brief.NotAdopted s adopted
 reply_brief (reply.LowSet s low) = brief.LowSet s low
 
+abbrev pub wish_brief : ToServer → Brief
+wish_brief (wish.Append tx) = brief.Submit tx.request
+wish_brief (wish.Feed from max) = brief.Feed from max
+wish_brief (wish.Get id) = brief.Get id
+wish_brief wish.Flush = brief.Flush
+
+abbrev pub answer_brief : FromServer → Brief
+answer_brief (answer.Committed request id) = brief.Committed request id
+answer_brief (answer.Pending request id) = brief.Pending request id
+answer_brief (answer.Refused request refusal) = brief.Refused request refusal
+answer_brief (answer.Heads from committed heads) = brief.Heads from (length heads) committed
+answer_brief (answer.Entry r) = brief.Entry r.id
+answer_brief (answer.Flushed committed) = brief.Flushed committed
+answer_brief (answer.Unserved refusal) = brief.Unserved refusal
+
 abbrev pub brief_of : Mail → Brief
 brief_of (mail.ToNode m) = request_brief m
 brief_of (mail.FromNode m) = reply_brief m
+brief_of (mail.ToServer m) = wish_brief m
+brief_of (mail.FromServer m) = answer_brief m
 
 -- what is printed of an envelope with this number
 abbrev pub item_of : ℕ → Envelope → Item

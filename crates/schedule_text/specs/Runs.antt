@@ -5,9 +5,9 @@ use Rattle.schedule_text.specs.declared.event.Cluster.{Cluster}
 use Rattle.schedule_text.specs.declared.event.Event.{Event}
 use Rattle.schedule_text.specs.declared.outcome.Outcome.{Outcome}
 use Rattle.schedule_text.specs.declared.outcome.Outcome.TheVariants.{Won}
-use Rattle.schedule_text.specs.declared.message.Phase.TheVariants.{Idle}
+use Rattle.proto_model.specs.declared.message.Phase.TheVariants.{Idle}
 use Rattle.schedule_text.specs.declared.mail.Envelope.{Envelope}
-use Rattle.schedule_text.specs.Servers.{ServerState}
+use Rattle.proto_model.specs.Servers.{ServerState}
 use Rattle.schedule_text.specs.Worlds.{WorldState, WorldStep, start}
 
 -- one step after another: the events, their outcomes, and the world after each

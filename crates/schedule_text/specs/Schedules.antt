@@ -1,8 +1,11 @@
 -- Which lines this build of the world takes.
-use Rattle.std.specs.Prelude.{◌≡◌, ℕ, ◌≤◌, Bool, true, false, ◌||◌, List, [], ◌∷◌, length, ⊤}
+use Rattle.std.specs.Prelude.{◌≡◌, ℕ, ◌+◌, ◌≤◌, Bool, true, false, ◌||◌, List, [], ◌∷◌, ◌++◌, length, Contains, ⊤}
+use Rattle.tx_model.specs.declared.op.Op.{Op}
+use Rattle.tx_model.specs.Transactions.{HasDouble}
+use Rattle.tx_model.specs.Applications.{touched_keys, SpellsOps}
 use Rattle.schedule_text.specs.declared.event.Cluster.{Cluster}
 use Rattle.schedule_text.specs.declared.event.Event.{Event}
-use Rattle.schedule_text.specs.declared.event.Event.TheVariants.{Read, Cas, Tick, Next}
+use Rattle.schedule_text.specs.declared.event.Event.TheVariants.{Read, Cas, Tick, Next, Append, Ask, App}
 use Rattle.schedule_text.specs.Events.{SpellsCluster, IsClusterInRange, SpellsEvent, IsInRange}
 
 abbrev pub is_cas : Event → Bool
@@ -10,13 +13,33 @@ is_cas (Cas server) = true
 is_cas (Read server) = false
 is_cas (Tick server) = false
 is_cas Next = false
+is_cas (Append client server writes reads ops) = false
+is_cas (Ask client server) = false
+is_cas (App client) = false
 
--- Whether the event may come: a `cas` only where none was tried. tried says whether an earlier line is a `cas`.
+-- Whether a client's building refuses neither the locks nor the ops: 64 locks at most, none of them twice, and an op text whose keys are write locks.
+pub record IsBuildable (writes reads : List (List ℕ)) (ops : List ℕ) : Type 0 where
+  pub few : length reads + length writes ≤ 64
+  pub once : ¬ HasDouble (reads ++ writes)
+  pub parts : List Op
+  pub spelled : SpellsOps ops parts
+  pub small : length ops ≤ 65536
+  pub covered : (key : List ℕ) → Contains (touched_keys parts) key → Contains writes key
+
+-- whether the event can happen: what is appended can be built
+abbrev pub CanHappen : Event → Type 0
+CanHappen (Append client server writes reads ops) = IsBuildable writes reads ops
+CanHappen _ = ⊤
+
+-- Whether the event may come: a `cas` only where none was tried, and an `append` only of what can be built. tried says whether an earlier line is a `cas`.
 abbrev pub IsTaken : Bool → Event → Type 0
 IsTaken tried (Cas server) = tried ≡ false
 IsTaken tried (Read server) = ⊤
 IsTaken tried (Tick server) = ⊤
 IsTaken tried Next = ⊤
+IsTaken tried (Append client server writes reads ops) = IsBuildable writes reads ops
+IsTaken tried (Ask client server) = ⊤
+IsTaken tried (App client) = ⊤
 
 -- a first line of this build, which runs one node, one server and one client
 pub record IsBuiltFirst (line : List ℕ) (cluster : Cluster) : Type 0 where

@@ -1,13 +1,12 @@
-ghost use Rattle.std.specs.Prelude.{◌≡◌, Some};
-ghost use Rattle.std.specs.List.{flat_map};
-ghost use Rattle.schedule_text.specs.Outcomes.{party_text, brief_text, item_text, next_item, items_text, outcome_text};
+ghost use Rattle.std.specs.Prelude.{◌≡◌};
 
 use crate::{Brief, Party};
+use proto_model::BuildFault;
 use std::fmt;
 use std::marker::Model;
 
 /// What is printed of an envelope that an event made: its number, from whom it goes to whom, and its message.
-#[derive(Clone, Copy, Debug, PartialEq, Eq)]
+#[derive(Debug, Drop)]
 pub struct Item {
     pub number: u64,
     pub from: Party,
@@ -44,7 +43,35 @@ impl Items {
     }
 }
 
-/// What an event gave. `Display` writes the outcome's line without its line feed.
+/// What is printed of an application: a space and `key=value` for each key, in byte order.
+#[derive(Debug, Drop)]
+pub struct AppText {
+    bytes: Vec<u8>,
+}
+
+impl Model for AppText {
+    ghost use Rattle.std.specs.Prelude.{List, ℕ};
+
+    ghost Value = { List ℕ };
+
+    ghost view = { λ t. t.bytes.items };
+}
+
+impl AppText {
+    pub fn new(bytes: Vec<u8>) -> AppText
+        ensures { result ≡ bytes.items }
+    {
+        AppText { bytes }
+    }
+
+    pub fn items(&self) -> &[u8]
+        ensures { result.now ≡ self.now }
+    {
+        &self.bytes
+    }
+}
+
+/// What an event gave. `print_outcome` writes its line.
 #[derive(Debug, Drop)]
 pub enum Outcome {
     /// The register's number.
@@ -63,6 +90,12 @@ pub enum Outcome {
     Quiet,
     /// There is no such envelope.
     NoEnvelope,
+    /// A client built nothing, and why.
+    Refused(BuildFault),
+    /// A client got an envelope: client, mark.
+    Client(u8, u64),
+    /// What a client's application holds: client, mark, text.
+    App(u8, u64, AppText),
 }
 
 impl fmt::Display for Party {
@@ -76,107 +109,6 @@ impl fmt::Display for Party {
             Party::Node(i) => write!(f, "n{i}"),
             Party::Server(v) => write!(f, "s{v}"),
             Party::Client(c) => write!(f, "c{c}"),
-        }
-    }
-}
-
-impl fmt::Display for Brief {
-    ghost use Rattle.std.specs.Prelude.{Some};
-    ghost use Rattle.schedule_text.specs.Outcomes.{brief_text};
-
-    ghost output = { λ b. Some (brief_text b) };
-
-    fn fmt<W: fmt::Write>(&self, f: &mut fmt::Formatter<W>) -> fmt::Result {
-        match self {
-            Brief::Open(s) => write!(f, "open {s}"),
-            Brief::Fetch(s, from, max) => write!(f, "fetch {s} {from} {max}"),
-            Brief::Stage(s, first, count) => write!(f, "stage {s} {first} {count}"),
-            Brief::Adopt(s, length) => write!(f, "adopt {s} {length}"),
-            Brief::Append(s, first, count) => write!(f, "append {s} {first} {count}"),
-            Brief::Low(s, k) => write!(f, "low {s} {k}"),
-            Brief::Opened(s, adopted, low, length) => write!(
-                f,
-                "opened {s} {adopted} {low} {length}"
-            ),
-            Brief::Stale(s, p) => write!(f, "stale {s} {p}"),
-            Brief::Unopened(s, p) => write!(f, "unopened {s} {p}"),
-            Brief::Records(s, first, count) => write!(f, "records {s} {first} {count}"),
-            Brief::Staged(s, upto) => write!(f, "staged {s} {upto}"),
-            Brief::StageAt(s, next) => write!(f, "stageat {s} {next}"),
-            Brief::Adopted(s, length) => write!(f, "adopted {s} {length}"),
-            Brief::Acked(s, length) => write!(f, "acked {s} {length}"),
-            Brief::Gap(s, length) => write!(f, "gap {s} {length}"),
-            Brief::NotAdopted(s, adopted) => write!(f, "notadopted {s} {adopted}"),
-            Brief::LowSet(s, low) => write!(f, "lowset {s} {low}"),
-        }
-    }
-}
-
-impl fmt::Display for Item {
-    ghost use Rattle.std.specs.Prelude.{Some};
-    ghost use Rattle.schedule_text.specs.Outcomes.{item_text};
-
-    ghost output = { λ i. Some (item_text i) };
-
-    fn fmt<W: fmt::Write>(&self, f: &mut fmt::Formatter<W>) -> fmt::Result {
-        let number = self.number;
-        let from = self.from;
-        let to = self.to;
-        let brief = self.brief;
-        write!(f, "{number} {from}>{to} {brief}")
-    }
-}
-
-// Items with a comma and a space before each.
-#[derive(Clone, Copy)]
-struct MoreItems<'a>(&'a [Item]);
-
-impl fmt::Display for MoreItems<'_> {
-    ghost output = { λ i. Some (flat_map next_item i.0.now) };
-
-    fn fmt<W: fmt::Write>(&self, f: &mut fmt::Formatter<W>) -> fmt::Result {
-        for item in self.0 {
-            let item = *item;
-            write!(f, ", {item}")?;
-        }
-        Ok(())
-    }
-}
-
-impl fmt::Display for Items {
-    ghost use Rattle.std.specs.Prelude.{Some};
-    ghost use Rattle.schedule_text.specs.Outcomes.{items_text};
-
-    ghost output = { λ i. Some (items_text i) };
-
-    fn fmt<W: fmt::Write>(&self, f: &mut fmt::Formatter<W>) -> fmt::Result {
-        match self.items().split_first() {
-            Some((first, rest)) => {
-                let first = *first;
-                let more = MoreItems(rest);
-                write!(f, "{first}{more}")
-            }
-            None => Ok(()),
-        }
-    }
-}
-
-impl fmt::Display for Outcome {
-    ghost use Rattle.std.specs.Prelude.{Some};
-    ghost use Rattle.schedule_text.specs.Outcomes.{outcome_text};
-
-    ghost output = { λ o. Some (outcome_text o) };
-
-    fn fmt<W: fmt::Write>(&self, f: &mut fmt::Formatter<W>) -> fmt::Result {
-        match self {
-            Outcome::Read(x) => write!(f, "read {x}"),
-            Outcome::Won(x) => write!(f, "won {x}"),
-            Outcome::Lost(x) => write!(f, "lost {x}"),
-            Outcome::Exhausted => f.write_str("exhausted"),
-            Outcome::Unread => f.write_str("unread"),
-            Outcome::Sent(items) => write!(f, "sent {items}"),
-            Outcome::Quiet => f.write_str("quiet"),
-            Outcome::NoEnvelope => f.write_str("none"),
         }
     }
 }

@@ -1,3 +1,7 @@
 pub mod Transactions
 pub mod Records
 pub mod Spelling
+pub mod Logs
+pub mod Hashes
+pub mod Probes
+pub mod Applications

@@ -64,6 +64,14 @@ impl Batch {
         Ok(Batch { records })
     }
 
+    /// The batch of records that are known to be one, as a decoder has tested them.
+    pub fn of_records(records: Vec<Record>) -> Batch
+        requires { IsBatch records.items }
+        ensures { result ≡ records.items }
+    {
+        Batch { records }
+    }
+
     /// The id of the first record.
     pub fn first(&self) -> u64
         ensures value { result ≡ first_id self.now }

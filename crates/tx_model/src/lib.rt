@@ -2,17 +2,23 @@
 #![tactic(auto)]
 
 mod batch;
+mod laws;
 mod lock;
 mod meta;
+mod op;
 mod op_text;
 mod record;
+mod steps;
 #[cfg(test)]
 mod tests;
 mod tx;
 
 pub use batch::{Batch, BatchFault, MAX_BATCH};
+pub use laws::admitted_name_no_held_lock;
 pub use lock::{Lock, LockFault, Locks};
 pub use meta::Meta;
+pub use op::Op;
 pub use op_text::OpText;
 pub use record::{Head, Heads, Record};
+pub use steps::Steps;
 pub use tx::{MAX_LOCKS, MAX_PAYLOAD, Tx, TxFault};

@@ -1,5 +1,6 @@
 ghost use Rattle.std.specs.Prelude.{◌≡◌, ◌↔◌, ◌<◌, Some, [], List, ℕ, bytes_eq, length, refl, IfOk};
 ghost use Rattle.tx_model.specs.Transactions.{IsName};
+ghost use Rattle.std.specs.Rc.{rc_slice_items};
 ghost use Rattle.std.specs.Ordering.{nat_cmp};
 ghost use Rattle.std.specs.Cmp.{partial_equiv_from_equiv};
 ghost use Rattle.std.specs.Cmp.Lexicographic.{slice_cmp, nat_list_eq_equiv, nat_list_cmp_total, texts_ties, texts_po};
@@ -7,11 +8,12 @@ ghost use Rattle.std.specs.Cmp.Lexicographic.{slice_cmp, nat_list_eq_equiv, nat_
 use std::alloc::{AllocError, Global};
 use std::cmp::Ordering;
 use std::marker::Model;
+use std::rc::RcSlice;
 
-/// The name of a lock, of 1 to 64 bytes.
+/// The name of a lock, of 1 to 64 bytes. Copies share the bytes.
 #[derive(Debug, Drop)]
 pub struct Lock {
-    name: Vec<u8>,
+    name: RcSlice<u8, Global>,
 }
 
 /// Why bytes are no lock's name.
@@ -27,9 +29,9 @@ pub enum LockFault {
 impl Model for Lock {
     ghost Value = { List ℕ };
 
-    ghost view = { λ l. l.name.items };
+    ghost view = { λ l. rc_slice_items l.name };
 
-    ghost invariant = { λ l. IsName l.name.items };
+    ghost invariant = { λ l. IsName (rc_slice_items l.name) };
 }
 
 impl Lock {
@@ -45,7 +47,7 @@ impl Lock {
         if name.len() > 64 {
             return Err(LockFault::TooLong);
         }
-        match name.to_vec(alloc) {
+        match RcSlice::from_slice(alloc, name) {
             Ok(name) => Ok(Lock { name }),
             Err(_) => Err(LockFault::Memory),
         }
@@ -56,7 +58,7 @@ impl Lock {
         requires { IsName name.now }
         ensures { IfOk result (λ lock. lock ≡ name.now) }
     {
-        let name = name.to_vec(alloc)?;
+        let name = RcSlice::from_slice(alloc, name)?;
         Ok(Lock { name })
     }
 
@@ -65,14 +67,14 @@ impl Lock {
         ensures value { result.now ≡ self.now }
         ensures name { IsName self.now }
     {
-        &self.name
+        self.name.as_slice()
     }
 
     /// An equal lock.
-    pub fn copy(&self, alloc: Global) -> Result<Lock, AllocError>
+    pub fn copy(&self, _alloc: Global) -> Result<Lock, AllocError>
         ensures { IfOk result (λ lock. lock ≡ self.now) }
     {
-        let name = self.name.to_vec(alloc)?;
+        let name = self.name.clone()?;
         Ok(Lock { name })
     }
 }
@@ -100,6 +102,20 @@ impl Locks {
         ensures { result.now ≡ self.now }
     {
         &self.items
+    }
+
+    /// An equal list.
+    pub fn copy(&self, alloc: Global) -> Result<Locks, AllocError>
+        ensures { IfOk result (λ copy. copy ≡ self.now) }
+    {
+        let items = copy_locks(alloc, &self.items)?;
+        Ok(Locks { items })
+    }
+
+    pub fn into_items(self) -> Vec<Lock>
+        ensures { result.items ≡ self }
+    {
+        self.items
     }
 }
 

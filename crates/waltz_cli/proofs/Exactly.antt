@@ -12,6 +12,7 @@ use Rattle.schedule_text.specs.Schedules.{IsSchedule, IsBuilt, AreBuilt, IsUnbui
 use Rattle.schedule_text.proofs.ScheduleLemmas.{one_event, one_cluster}
 use Rattle.waltz_cli.specs.declared.end.End.{End}
 use Rattle.waltz_cli.specs.declared.end.End.TheVariants.{Done, Usage, Unbuilt, Limit, ReadFault, WriteFault, Memory}
+use Rattle.schedule_text.proofs.SafeRuns.{every_schedule}
 use Rattle.waltz_cli.specs.Ends.{status_of, last_line, IsBroken, IsReported, IsDecided}
 use Rattle.waltz_cli.specs.Replays.{HasReason, Reads, PrintsReplay, ComesExactly}
 use Rattle.waltz_cli.specs.Steps.{Reaches, Finishes, IsTold}
@@ -200,6 +201,7 @@ prints left_old left_new h0 h1 h2 waiting end status reaches finish other = reco
   read = reaches.read;
   schedule = reaches.schedule;
   run = reaches.run;
+  safe = every_schedule reaches.lines reaches.cluster reaches.events reaches.outcomes reaches.worlds reaches.schedule reaches.run;
   text = text_of end h0 h1 h2 reaches.written waiting (printed reaches.outcomes) status reaches.held reaches.told finish other;
 }
 

@@ -12,7 +12,7 @@ use Rattle.io_core.proofs.LineLemmas.{lines_of-ended, lines_of-line, ended_lines
 use Rattle.schedule_text.specs.declared.event.Cluster.{Cluster}
 use Rattle.schedule_text.specs.declared.event.Event.{Event as AnEvent}
 use Rattle.schedule_text.specs.declared.outcome.Outcome.{Outcome}
-use Rattle.schedule_text.specs.Worlds.{WorldState, WorldStep, start}
+use Rattle.schedule_text.specs.Worlds.{WorldState, start, happens}
 use Rattle.schedule_text.specs.Runs.{IsRun, last_world}
 use Rattle.schedule_text.specs.Outcomes.{printed, outcome_line}
 use Rattle.schedule_text.specs.Schedules.{IsSchedule, IsBuilt, IsUnbuilt, tried_after, is_cas}
@@ -21,7 +21,8 @@ use Rattle.schedule_text.proofs.ScheduleLemmas.{AreBuilt-push, tried_after-push,
 use Rattle.waltz_cli.specs.declared.end.End.{End}
 use Rattle.waltz_cli.specs.declared.end.End.TheVariants.{Done, Usage, Unbuilt, Limit, ReadFault, WriteFault, Memory}
 use Rattle.waltz_cli.specs.declared.events.Progress.{Progress}
-use Rattle.waltz_cli.specs.Views.{world_of}
+use Rattle.waltz_cli.specs.Parties.{are_placed}
+use Rattle.waltz_cli.specs.Views.{Shows}
 use Rattle.waltz_cli.specs.Replays.{HasReason, Gave, Leaves, ReadsWhere}
 use Rattle.waltz_cli.specs.Steps.{IsOver, IsNoEvent, IsNoFirst, FirstOf, LastOf, Turns, TurnOf, Moves, WritesOf, IsTold, Reaches}
 
@@ -122,9 +123,10 @@ pub record Going (left_old left_new held_old held_new : Option (List ℕ)) (wait
   pub events : List AnEvent
   pub outcomes : List Outcome
   pub worlds : List WorldState
-  pub schedule : IsSchedule lines p.world.cluster events
-  pub run : IsRun (start p.world.cluster) events outcomes worlds
-  pub here : last_world (start p.world.cluster) worlds ≡ world_of p.world
+  pub schedule : IsSchedule lines p.world.parties.cluster events
+  pub run : IsRun (start p.world.parties.cluster) events outcomes worlds
+  pub here : Shows p.world (last_world (start p.world.parties.cluster) worlds)
+  pub placed : are_placed p.world.sent.items ≡ true
   pub tried : tried_after false events ≡ p.tried
   pub read : TakesLines left_old left_new lines
   pub written : List ℕ
@@ -133,15 +135,16 @@ pub record Going (left_old left_new held_old held_new : Option (List ℕ)) (wait
   pub count : length lines ≡ total
 
 -- after the first line
-pub going_first : (a b held : Option (List ℕ)) (pending waiting : List ℕ) (p : Progress) (cluster : Cluster) → pending ≡ [] → waiting ≡ [] → FirstOf (prepend_known pending a) b (Ok cluster) → p.world.cluster ≡ cluster → world_of p.world ≡ start cluster → p.tried ≡ false → Going a b held held waiting p 1
-going_first a b held pending waiting p cluster fresh empty first same begins untried = record {
+pub going_first : (a b held : Option (List ℕ)) (pending waiting : List ℕ) (p : Progress) (cluster : Cluster) → pending ≡ [] → waiting ≡ [] → FirstOf (prepend_known pending a) b (Ok cluster) → p.world.parties.cluster ≡ cluster → Shows p.world (start cluster) → are_placed p.world.sent.items ≡ true → p.tried ≡ false → Going a b held held waiting p 1
+going_first a b held pending waiting p cluster fresh empty first same begins placed untried = record {
   lines = first.line ∷ [];
   events = [];
   outcomes = [];
   worlds = [];
   schedule = (rw same first.first, tt);
   run = tt;
-  here = ap start same ∙ sym begins;
+  here = let S : Cluster → Type 0 = λ x. Shows p.world (start x) in subst S (sym same) begins;
+  placed = placed;
   tried = sym untried;
   read = TakesLines-more a a b [] first.line (TakesLines-none a) (rw (fresh, prepend-nothing a) at first.read);
   written = [];
@@ -167,6 +170,7 @@ going_written a b h0 h1 h2 w0 w1 p n going moves = record {
   schedule = going.schedule;
   run = going.run;
   here = going.here;
+  placed = going.placed;
   tried = going.tried;
   read = going.read;
   written = going.written ++ moves.moved;
@@ -179,17 +183,20 @@ going_written a b h0 h1 h2 w0 w1 p n going moves = record {
 pub going_more : (a b c h0 h1 : Option (List ℕ)) (w0 w1 : List ℕ) (old new : Progress) (n : ℕ) → 0 < n → Going a b h0 h1 w0 old n → Turns b c old new w0 w1 → Going a c h0 h1 w1 new (n + 1)
 going_more a b c h0 h1 w0 w1 old new n some going turn =
     let S : Cluster → Type 0 = λ x. IsSchedule (going.lines ++ turn.takes.line ∷ []) x (going.events ++ turn.event ∷ []) in
-    let R : Cluster → Type 0 = λ x. IsRun (start x) (going.events ++ turn.event ∷ []) (going.outcomes ++ turn.outcome ∷ []) (going.worlds ++ world_of new.world ∷ []) in
-    let B : Bool → Type 0 = λ t. IsBuilt old.world.cluster t turn.takes.line turn.event in
-    let W : WorldState → Type 0 = λ w. WorldStep w turn.event turn.outcome (world_of new.world) in
+    let last : WorldState = last_world (start old.world.parties.cluster) going.worlds in
+    let after : WorldState = happens last turn.event in
+    let R : Cluster → Type 0 = λ x. IsRun (start x) (going.events ++ turn.event ∷ []) (going.outcomes ++ turn.outcome ∷ []) (going.worlds ++ after ∷ []) in
+    let B : Bool → Type 0 = λ t. IsBuilt old.world.parties.cluster t turn.takes.line turn.event in
+    let V : WorldState → Type 0 = λ w. Shows new.world w in
     record {
       lines = going.lines ++ turn.takes.line ∷ [];
       events = going.events ++ turn.event ∷ [];
       outcomes = going.outcomes ++ turn.outcome ∷ [];
-      worlds = going.worlds ++ world_of new.world ∷ [];
-      schedule = subst S (sym turn.cluster) (IsSchedule-push old.world.cluster going.lines going.events turn.takes.line turn.event (omega (arith, going.count)) going.schedule (subst B (sym going.tried) turn.takes.built));
-      run = subst R (sym turn.cluster) (IsRun-push (start old.world.cluster) going.events going.outcomes going.worlds turn.event turn.outcome (world_of new.world) going.run (subst W (sym going.here) turn.step));
-      here = last_world-push (start new.world.cluster) going.worlds (world_of new.world);
+      worlds = going.worlds ++ after ∷ [];
+      schedule = subst S (sym turn.cluster) (IsSchedule-push old.world.parties.cluster going.lines going.events turn.takes.line turn.event (omega (arith, going.count)) going.schedule (subst B (sym going.tried) turn.takes.built));
+      run = subst R (sym turn.cluster) (IsRun-push (start old.world.parties.cluster) going.events going.outcomes going.worlds turn.event turn.outcome after going.run (record { outcome_is = turn.step last going.here; new_is = refl }));
+      here = subst V (sym (last_world-push (start new.world.parties.cluster) going.worlds after)) (turn.leads last going.here);
+      placed = turn.placed;
       tried = tried_after-push false going.events turn.event ∙ (ap (λ t. t || is_cas turn.event) going.tried ∙ sym turn.tried);
       read = TakesLines-more a b c going.lines turn.takes.line going.read turn.takes.read;
       written = going.written;
@@ -211,7 +218,7 @@ reads (Some bytes) (Some rest) left end lines events taken reason =
 -- it ends between two lines, with all of the text told or a part of it
 going_ends : (a b left h0 h1 : Option (List ℕ)) (waiting : List ℕ) (p : Progress) (n : ℕ) (end : End) (going : Going a b h0 h1 waiting p n) → ReadsWhere end a left going.lines going.events → IsTold end (going.written ++ waiting) (printed going.outcomes) → Reaches a left h0 h1 waiting end
 going_ends a b left h0 h1 waiting p n end going read told = record {
-  cluster = p.world.cluster;
+  cluster = p.world.parties.cluster;
   lines = going.lines;
   events = going.events;
   outcomes = going.outcomes;
@@ -277,7 +284,7 @@ going_turn_ends a b left h0 h1 pending w0 w1 old new n number (Unbuilt line) som
     rw turn.2 (going_ends a b left h0 h1 w0 old n (Unbuilt line) going
     (reads a b left (Unbuilt line) going.lines going.events going.read (λ bytes rest known known' taken. (
       (
-        unbuilt_rest old.world.cluster old.tried going.lines going.events (lines_of rest) (omega (arith, going.count)) going.schedule going.tried (rw known' at turn.0),
+        unbuilt_rest old.world.parties.cluster old.tried going.lines going.events (lines_of rest) (omega (arith, going.count)) going.schedule going.tried (rw known' at turn.0),
         omega (arith, going.count, turn.1),
         omega (arith, going.count),
       ),
@@ -302,7 +309,7 @@ prefix_told written waiting text k told within =
 broken_ends : (a b left h0 h1 h2 : Option (List ℕ)) (w0 : List ℕ) (p : Progress) (n : ℕ) (end : End) (going : Going a b h0 h1 w0 p n) → AppendsPrefix h1 h2 w0 → ReadsWhere end a left going.lines going.events → ((m : ℕ) (told : List ℕ) → told ≡ take m (printed going.outcomes) → IsTold end told (printed going.outcomes)) → Reaches a left h0 h2 [] end
 broken_ends a b left h0 h1 h2 w0 p n end going broken read told =
     let prefix = prefix_told going.written w0 (printed going.outcomes) broken.0 going.told broken.1 in record {
-      cluster = p.world.cluster;
+      cluster = p.world.parties.cluster;
       lines = going.lines;
       events = going.events;
       outcomes = going.outcomes;
@@ -377,6 +384,10 @@ nothing_read a left held waiting end empty read told = rw empty (record {
   held = Appends-nothing held;
   told = told;
 })
+
+-- there was no memory for the world
+pub no_world : (a left held : Option (List ℕ)) (waiting : List ℕ) → waiting ≡ [] → Reaches a left held held waiting Memory
+no_world a left held waiting empty = nothing_read a left held waiting Memory empty (reads_memory a left a [] [] (TakesLines-none a)) (0, refl)
 
 no_first : (rest : List (List ℕ)) → IsNoFirst rest → IsUnbuilt [] [] rest
 no_first [] p = tt

@@ -4,9 +4,5 @@ pub mod Finishing
 pub mod Going
 pub mod Exactly
 pub mod NodeLemmas
-pub mod Choosing
-pub mod Counts
-pub mod Helds
-pub mod Parts
-pub mod Sending
-pub mod Reacting
+pub mod Showing
+pub mod Building

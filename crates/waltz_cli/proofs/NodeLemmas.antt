@@ -7,7 +7,7 @@ use Rattle.tx_model.specs.declared.batch.BatchFault.{BatchFault}
 use Rattle.tx_model.specs.declared.batch.BatchFault.TheVariants.{Empty, TooMany, Gap}
 use Rattle.tx_model.specs.Records.{RiseByOne, first_id, IsBatch, IsFirstGap}
 use Rattle.tx_model.proofs.Batches.{StepByOne, RiseByOne-append, RiseByOne-take, RiseByOne-drop, IsBatch-from_RiseByOne, IsBatch-id, none_gap}
-use Rattle.schedule_text.specs.Replicas.{ReplicaState, fresh_replica, next_staged, grown}
+use Rattle.proto_model.specs.Replicas.{ReplicaState, fresh_replica, next_staged, grown}
 use Rattle.waltz_cli.specs.Nodes.{IsReplica}
 
 -- ---- the effects of messages

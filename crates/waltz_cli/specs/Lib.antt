@@ -1,6 +1,5 @@
 pub mod Nodes
-pub mod Held
-pub mod Reactions
+pub mod Parties
 pub mod Views
 pub mod Ends
 pub mod Replays

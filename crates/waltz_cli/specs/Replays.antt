@@ -1,5 +1,5 @@
 -- What a replay prints, and at which status.
-use Rattle.std.specs.Prelude.{◌≡◌, ◌≢◌, ◌⊎◌, ℕ, ◌+◌, ◌<◌, ◌≤◌, List, [], ◌++◌, length, Option, None, Some, ⊤}
+use Rattle.std.specs.Prelude.{◌≡◌, ◌≢◌, ◌⊎◌, ℕ, ◌+◌, ◌<◌, ◌≤◌, List, [], ◌∷◌, ◌++◌, length, Option, None, Some, ⊤}
 use Rattle.std.specs.Io.KnownBytes.{Appends}
 use Rattle.io_core.specs.Bytes.{AppendsPrefix}
 use Rattle.io_core.specs.Lines.{lines_of, ended_lines}
@@ -8,6 +8,7 @@ use Rattle.schedule_text.specs.declared.event.Event.{Event}
 use Rattle.schedule_text.specs.declared.outcome.Outcome.{Outcome}
 use Rattle.schedule_text.specs.Worlds.{WorldState, start}
 use Rattle.schedule_text.specs.Runs.{IsRun}
+use Rattle.schedule_text.specs.Safety.{IsSafeRun}
 use Rattle.schedule_text.specs.Outcomes.{printed}
 use Rattle.schedule_text.specs.Schedules.{IsSchedule, IsUnbuilt}
 use Rattle.waltz_cli.specs.declared.end.End.{End}
@@ -52,8 +53,9 @@ abbrev pub ReadsWhere : End → Option (List ℕ) → Option (List ℕ) → List
 ReadsWhere end None left lines events = ⊤
 ReadsWhere end (Some bytes) left lines events = Reads end bytes left lines events
 
--- The lines that were read are a schedule, its events and outcomes are a run of the world, and what is printed is the
--- lines of these outcomes and then the last line. Where the output broke off it is a prefix of such a text.
+-- The lines that were read are a schedule, its events and outcomes are a run of the world, each world of that run is safe
+-- and the one log only grows, and what is printed is the lines of these outcomes and then the last line. Where the output
+-- broke off it is a prefix of such a text.
 pub record PrintsReplay (left_old left_new held_old held_new : Option (List ℕ)) (status : ℕ) : Type 0 where
   pub end : End
   pub cluster : Cluster
@@ -64,6 +66,7 @@ pub record PrintsReplay (left_old left_new held_old held_new : Option (List ℕ)
   pub read : ReadsWhere end left_old left_new lines events
   pub schedule : IsSchedule lines cluster events
   pub run : IsRun (start cluster) events outcomes worlds
+  pub safe : IsSafeRun (start cluster ∷ worlds)
   pub text :
       (IsReported end × (status ≡ status_of end) × Appends held_old held_new (printed outcomes ++ last_line end))
       ⊎ (IsBroken status × AppendsPrefix held_old held_new (printed outcomes ++ last_line end))

@@ -1,12 +1,12 @@
 -- The parts of a replay: its lines one after the other, and what waits to be written.
-use Rattle.std.specs.Prelude.{◌≡◌, ◌≢◌, ◌⊎◌, ℕ, Bool, ◌||◌, List, [], ◌∷◌, ◌++◌, take, Option, None, Some, Result, Ok, Err, ⊤}
+use Rattle.std.specs.Prelude.{◌≡◌, ◌≢◌, ◌⊎◌, ℕ, Bool, true, ◌||◌, List, [], ◌∷◌, ◌++◌, take, Option, None, Some, Result, Ok, Err, ⊤}
 use Rattle.std.specs.Io.KnownBytes.{Appends, IsAtEnd, Keeps}
 use Rattle.io_core.specs.Bytes.{AppendsPrefix}
 use Rattle.io_core.specs.Lines.{TakesLine, TakesPart, lines_of}
 use Rattle.schedule_text.specs.declared.event.Cluster.{Cluster}
 use Rattle.schedule_text.specs.declared.event.Event.{Event as AnEvent}
 use Rattle.schedule_text.specs.declared.outcome.Outcome.{Outcome}
-use Rattle.schedule_text.specs.Worlds.{WorldState, WorldStep, start}
+use Rattle.schedule_text.specs.Worlds.{WorldState, start, happens, outcome_of}
 use Rattle.schedule_text.specs.Runs.{IsRun}
 use Rattle.schedule_text.specs.Outcomes.{printed, outcome_line}
 use Rattle.schedule_text.specs.Schedules.{IsBuilt, IsBuiltFirst, IsSchedule, is_cas}
@@ -17,7 +17,8 @@ use Rattle.waltz_cli.specs.declared.input.Next.TheVariants as next
 use Rattle.waltz_cli.specs.declared.events.Progress.{Progress}
 use Rattle.waltz_cli.specs.Ends.{last_line, status_of, IsBroken}
 use Rattle.waltz_cli.specs.Replays.{ReadsWhere}
-use Rattle.waltz_cli.specs.Views.{world_of}
+use Rattle.waltz_cli.specs.Parties.{are_placed}
+use Rattle.waltz_cli.specs.Views.{Shows}
 
 -- ---- reading
 
@@ -93,9 +94,11 @@ LastOf left_old left_new _ = ⊥
 pub record Turns (left_old left_new : Option (List ℕ)) (old new : Progress) (waiting_old waiting_new : List ℕ) : Type 0 where
   pub event : AnEvent
   pub outcome : Outcome
-  pub takes : TakesEvent left_old left_new old.world.cluster old.tried event
-  pub step : WorldStep (world_of old.world) event outcome (world_of new.world)
-  pub cluster : new.world.cluster ≡ old.world.cluster
+  pub takes : TakesEvent left_old left_new old.world.parties.cluster old.tried event
+  pub step : (w : WorldState) → Shows old.world w → outcome ≡ outcome_of w event
+  pub leads : (w : WorldState) → Shows old.world w → Shows new.world (happens w event)
+  pub placed : are_placed new.world.sent.items ≡ true
+  pub cluster : new.world.parties.cluster ≡ old.world.parties.cluster
   pub tried : new.tried ≡ (old.tried || is_cas event)
   pub text : waiting_new ≡ waiting_old ++ outcome_line outcome
 
@@ -104,7 +107,7 @@ abbrev pub TurnOf : Option (List ℕ) → Option (List ℕ) → Progress → Pro
 TurnOf left_old left_new old new waiting_old waiting_new number (Ok _) = Turns left_old left_new old new waiting_old waiting_new
 TurnOf left_old left_new old new waiting_old waiting_new number (Err Done) = IsOver left_old left_new × (waiting_new ≡ waiting_old)
 TurnOf left_old left_new old new waiting_old waiting_new number (Err (Unbuilt line)) =
-    BeginsUnbuilt old.world.cluster old.tried left_old × (line ≡ number) × (waiting_new ≡ waiting_old)
+    BeginsUnbuilt old.world.parties.cluster old.tried left_old × (line ≡ number) × (waiting_new ≡ waiting_old)
 TurnOf left_old left_new old new waiting_old waiting_new number (Err ReadFault) = TakesPart left_old left_new × (waiting_new ≡ waiting_old)
 TurnOf left_old left_new old new waiting_old waiting_new number (Err Memory) = waiting_new ≡ waiting_old
 TurnOf left_old left_new old new waiting_old waiting_new number (Err _) = ⊥

@@ -1,4 +1,5 @@
-ghost use Rattle.std.specs.Prelude.{◌≡◌, ◌≢◌, ◌≤◌, []};
+ghost use Rattle.std.specs.Prelude.{◌≡◌, ◌≢◌, ◌≤◌, [], true};
+ghost use Rattle.waltz_cli.specs.Parties.{are_placed};
 ghost use Rattle.std.specs.Io.KnownBytes.{prepend_known};
 ghost use Rattle.io_core.specs.Causes.{Rose};
 ghost use Rattle.waltz_cli.specs.Steps.{TurnOf, WritesOf, Reaches};
@@ -25,12 +26,14 @@ pub struct Progress {
 
 // One line of the schedule: its event's step, and the line of its outcome.
 fn turn<S: Source>(
+    alloc: Global,
     source: &mut S,
     input: &mut Input,
     output: &mut Output,
     progress: &mut Progress,
     number: u64,
 ) -> Result<(), End>
+    requires { are_placed progress.old.world.sent.items ≡ true }
     ensures turn { TurnOf
         (prepend_known input.old.pending (S.left source.old)) (prepend_known input.new.pending (S.left source.new))
         progress.old progress.new output.old.waiting.items output.new.waiting.items number result }
@@ -38,12 +41,13 @@ fn turn<S: Source>(
     ensures read { S.faults source.old ≤ S.faults source.new }
     ensures read_fault { result ≡ Err End.ReadFault → Rose (S.faults source.old) (S.faults source.new) }
 {
-    match next_event(source, input, &progress.world.cluster, progress.tried) {
+    let cluster = progress.world.parties.cluster;
+    match next_event(alloc, source, input, &cluster, progress.tried) {
         Ok(Next::Event(event)) => {
+            progress.tried = progress.tried || is_cas(&event);
             let Ok(outcome) = progress.world.step(event) else {
                 return Err(End::Memory);
             };
-            progress.tried = progress.tried || is_cas(event);
             match output.print(&outcome) {
                 Ok(()) => Ok(()),
                 Err(_) => Err(End::Memory),
@@ -95,8 +99,11 @@ pub fn replay<S: Source, W: Sink>(
         Ok(cluster) => cluster,
         Err(end) => return end,
     };
+    let Ok(world) = World::new(alloc, cluster) else {
+        return End::Memory;
+    };
     let mut progress = Progress {
-        world: World::new(alloc, cluster),
+        world,
         tried: false,
     };
     for event in 0..MAX_EVENTS {
@@ -104,7 +111,7 @@ pub fn replay<S: Source, W: Sink>(
             Ok(()) => {}
             Err(end) => return end,
         }
-        match turn(source, &mut input, output, &mut progress, event + 2) {
+        match turn(alloc, source, &mut input, output, &mut progress, event + 2) {
             Ok(()) => {}
             Err(end) => return end,
         }

@@ -1,15 +1,19 @@
-ghost use Rattle.std.specs.Prelude.{◌≡◌, [], ◌≤◌, IfOk, IfSome, IfNone, length};
+ghost use Rattle.std.specs.Prelude.{◌≡◌, ◌↔◌, [], ◌≤◌, IfOk, IfSome, IfNone, IsTrue, length};
 ghost use Rattle.std.specs.Io.KnownBytes.{prepend_known};
 ghost use Rattle.io_core.specs.Causes.{Rose, HasCauseOrMemory};
 ghost use Rattle.io_core.specs.Lines.{TakesPart};
 ghost use Rattle.schedule_text.specs.declared.event.Cluster.{Cluster as ClusterValue};
-ghost use Rattle.schedule_text.specs.Schedules.{is_cas, IsBuiltFirst};
+ghost use Rattle.schedule_text.specs.Schedules.{is_cas, IsBuiltFirst, IsTaken, IsBuildable};
 ghost use Rattle.waltz_cli.specs.Steps.{IsNextOf, IsBuiltOrNot, FirstOf, LastOf};
 
 use crate::end::End;
+use client_core::Client;
 use io_core::{Fault, MAX_LINE, Pending, ReadLine, Source, next_byte, next_line};
-use schedule_text::{Cluster, Event, read_cluster, read_event};
-use std::alloc::Global;
+use kv_app::{KvApp, op_texts_spell_their_ops};
+use proto_model::BuildFault;
+use schedule_text::{Cluster, Event, LineFault, read_cluster, read_event};
+use std::alloc::{AllocError, Global};
+use tx_model::{Locks, OpText};
 
 /// What was read and not used yet, and the line that is read now.
 #[derive(Drop)]
@@ -30,7 +34,7 @@ impl Input {
 }
 
 /// What the next line of a schedule is.
-#[derive(Clone, Copy, Debug, PartialEq, Eq)]
+#[derive(Debug, Drop)]
 pub enum Next {
     Event(Event),
     /// It is no built line.
@@ -40,14 +44,15 @@ pub enum Next {
 }
 
 /// Whether the event is a `cas`, of which a schedule of this build has one at most.
-pub fn is_cas(event: Event) -> bool
-    ensures { result ≡ is_cas event }
+pub fn is_cas(event: &Event) -> bool
+    ensures { result ≡ is_cas event.now }
 {
     matches!(event, Event::Cas(_))
 }
 
 /// Reads the next line, and the event that it is. `tried` says whether an earlier line is a `cas`.
 pub fn next_event<S: Source>(
+    alloc: Global,
     source: &mut S,
     input: &mut Input,
     cluster: &Cluster,
@@ -63,24 +68,62 @@ pub fn next_event<S: Source>(
     match next_line(source, &mut input.pending, &mut input.line) {
         Ok(ReadLine::End) => Ok(Next::End),
         Ok(ReadLine::TooLong) => Ok(Next::Unbuilt),
-        Ok(ReadLine::Line) => Ok(built_event(&input.line, cluster, tried)),
+        Ok(ReadLine::Line) => match built_event(alloc, &input.line, cluster, tried) {
+            Ok(next) => Ok(next),
+            Err(_) => Err(Fault::Memory),
+        },
         Err(fault) => Err(fault),
     }
 }
 
 // The event of a line that this build takes.
-fn built_event(line: &[u8], cluster: &Cluster, tried: bool) -> Next
+fn built_event(
+    alloc: Global,
+    line: &[u8],
+    cluster: &Cluster,
+    tried: bool,
+) -> Result<Next, AllocError>
     requires { length line.now ≤ MAX_LINE }
-    ensures { IsBuiltOrNot cluster.now tried line.now result }
+    ensures { IfOk result (IsBuiltOrNot cluster.now tried line.now) }
 {
-    match read_event(line, cluster) {
-        Some(event) => {
-            if tried && is_cas(event) {
-                return Next::Unbuilt;
+    match read_event(alloc, line, cluster) {
+        Ok(event) => {
+            if !is_taken(alloc, &event, tried)? {
+                return Ok(Next::Unbuilt);
             }
-            Next::Event(event)
+            Ok(Next::Event(event))
         }
-        None => Next::Unbuilt,
+        Err(LineFault::Bad) => Ok(Next::Unbuilt),
+        Err(LineFault::Memory) => Err(AllocError),
+    }
+}
+
+// Whether the event may come, where `tried` says whether an earlier line is a `cas`.
+fn is_taken(alloc: Global, event: &Event, tried: bool) -> Result<bool, AllocError>
+    ensures { IfOk result (λ taken. IsTrue taken ↔ IsTaken tried event.now) }
+{
+    match event {
+        Event::Cas(_) => Ok(!tried),
+        Event::Append(_, _, writes, reads, ops) => {
+            let can = can_build(alloc, writes, reads, ops)?;
+            Ok(can)
+        }
+        _ => Ok(true),
+    }
+}
+
+// Whether a client would build a transaction of these: it is built once, aside.
+fn can_build(alloc: Global, writes: &Locks, reads: &Locks, ops: &OpText) -> Result<bool, AllocError>
+    ensures { IfOk result (λ can. IsTrue can ↔ IsBuildable writes.now reads.now ops.now) }
+{
+    op_texts_spell_their_ops();
+    let mut client = Client::new(alloc, 1, 1, KvApp::new(alloc));
+    let writes = writes.copy(alloc)?.into_items();
+    let reads = reads.copy(alloc)?.into_items();
+    match client.build(writes, reads, ops.items()) {
+        Ok(_) => Ok(true),
+        Err(BuildFault::Memory) => Err(AllocError),
+        Err(_) => Ok(false),
     }
 }
 

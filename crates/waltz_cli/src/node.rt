@@ -1,8 +1,8 @@
 ghost use Rattle.std.specs.Prelude.{◌≡◌, ◌≤◌, ◌-◌, ◌++◌, length, drop, take, IfOk, OnOk, OnErr, IfNone};
 ghost use Rattle.tx_model.specs.Records.{IsBatch};
-ghost use Rattle.schedule_text.specs.Replicas.{fresh_replica, next_staged, replica_after, replica_reply};
+ghost use Rattle.proto_model.specs.Replicas.{fresh_replica, next_staged, replica_after, replica_reply};
 
-use schedule_text::{FromNode, ToNode};
+use proto_model::{FromNode, ToNode};
 use std::alloc::{AllocError, Global};
 use std::marker::Model;
 use tx_model::{Batch, Record};
@@ -19,7 +19,7 @@ pub struct Node {
 }
 
 impl Model for Node {
-    ghost use Rattle.schedule_text.specs.Replicas.{ReplicaState};
+    ghost use Rattle.proto_model.specs.Replicas.{ReplicaState};
     ghost use Rattle.waltz_cli.specs.Nodes.{IsReplica};
 
     ghost Value = { ReplicaState };

@@ -8,15 +8,16 @@ ghost use Rattle.waltz_cli.specs.Steps.{AddsLast, Finishes};
 
 use crate::end::End;
 use io_core::{Fault, Sink, write_all};
-use schedule_text::Outcome;
+use schedule_text::{Outcome, print_outcome};
 use std::alloc::{AllocError, Global};
 use std::fmt::Write;
 
-/// The bytes that wait to be written, and room for the line that is printed now.
+/// The bytes that wait to be written, and room for the last line.
 #[derive(Drop)]
 pub struct Output {
+    alloc: Global,
     pub waiting: Vec<u8>,
-    line: String,
+    last: String,
 }
 
 impl Output {
@@ -24,8 +25,9 @@ impl Output {
         ensures { result.waiting.items ≡ [] }
     {
         Output {
+            alloc,
             waiting: Vec::new(alloc),
-            line: String::new(alloc),
+            last: String::new(alloc),
         }
     }
 
@@ -34,20 +36,24 @@ impl Output {
         ensures ok { OnOk result (self.new.waiting.items ≡ self.old.waiting.items ++ outcome_line outcome.now) }
         ensures err { OnErr result (self.new.waiting.items ≡ self.old.waiting.items) }
     {
-        self.line.clear();
-        write!(self.line, "{outcome}\n")?;
-        self.waiting.extend_from_slice(self.line.as_bytes())
+        let before = self.waiting.len();
+        print_outcome(self.alloc, outcome, &mut self.waiting)?;
+        if self.waiting.push(b'\n').is_err() {
+            self.waiting.truncate(before);
+            return Err(AllocError);
+        }
+        Ok(())
     }
 
     // Adds the last line of an end. Where there is no memory for it, that is the end.
     fn print_end(&mut self, end: End) -> End
         ensures { AddsLast self.old.waiting.items self.new.waiting.items end result }
     {
-        self.line.clear();
-        if write!(self.line, "{end}").is_err() {
+        self.last.clear();
+        if write!(self.last, "{end}").is_err() {
             return End::Memory;
         }
-        match self.waiting.extend_from_slice(self.line.as_bytes()) {
+        match self.waiting.extend_from_slice(self.last.as_bytes()) {
             Ok(()) => end,
             Err(_) => End::Memory,
         }

@@ -173,6 +173,75 @@ fn a_session_is_opened_and_adopted(rt: HostRuntime) -> Result<(), Fail> {
     expect(&rt, schedule.as_slice(), 0, text.as_slice())
 }
 
+// The first worked row, from a session to the printed application.
+#[test]
+fn a_transaction_reaches_the_application(rt: HostRuntime) -> Result<(), Fail> {
+    let schedule =
+        b"cluster 1 1 1 2 64\nread 1\ncas 1\ntick 1\nnext\nnext\ntick 1\nnext\nnext\nappend 1 1 a - set a 5\nnext\ntick 1\nnext\nnext\nnext\nask 1 1\nnext\nnext\nask 1 1\nnext\nnext\napp 1\n";
+    let text =
+        b"read 0\nwon 1\nsent 1 s1>n1 open 1\nsent 2 n1>s1 opened 1 0 0 0\nquiet\nsent 3 s1>n1 adopt 1 0\nsent 4 n1>s1 adopted 1 0\nquiet\nsent 5 c1>s1 append 1\nquiet\nsent 6 s1>n1 append 1 1 1\nsent 7 n1>s1 acked 1 1\nsent 8 s1>c1 committed 1 1\nclient 1 mark 0\nsent 9 c1>s1 feed 1 16\nsent 10 s1>c1 heads 1 1 1\nclient 1 mark 0\nsent 11 c1>s1 get 1\nsent 12 s1>c1 entry 1\nclient 1 mark 1\napp 1 mark=1 a=5\n";
+    expect(&rt, schedule.as_slice(), 0, text.as_slice())
+}
+
+#[test]
+fn a_server_without_a_session_serves_nobody(rt: HostRuntime) -> Result<(), Fail> {
+    let schedule =
+        b"cluster 1 1 1 2 64\nappend 1 1 a - set a 5\nnext\nnext\nask 1 1\nnext\nnext\napp 1\n";
+    let text =
+        b"sent 1 c1>s1 append 1\nsent 2 s1>c1 refused 1 notrunning idle\nclient 1 mark 0\nsent 3 c1>s1 feed 1 16\nsent 4 s1>c1 unserved notrunning idle\nclient 1 mark 0\napp 1 mark=0\n";
+    expect(&rt, schedule.as_slice(), 0, text.as_slice())
+}
+
+#[test]
+fn with_one_slot_two_keys_conflict_and_no_locks_never_do(rt: HostRuntime) -> Result<(), Fail> {
+    let schedule =
+        b"cluster 1 1 1 1 1\nread 1\ncas 1\ntick 1\nnext\nnext\ntick 1\nnext\nnext\nappend 1 1 a - set a 1\nappend 1 1 b - set b 1\nappend 1 1 - b -\nappend 1 1 - - -\nnext\nnext\nnext\nnext\nnext\nnext\nnext\n";
+    let text =
+        b"read 0\nwon 1\nsent 1 s1>n1 open 1\nsent 2 n1>s1 opened 1 0 0 0\nquiet\nsent 3 s1>n1 adopt 1 0\nsent 4 n1>s1 adopted 1 0\nquiet\nsent 5 c1>s1 append 1\nsent 6 c1>s1 append 2\nsent 7 c1>s1 append 3\nsent 8 c1>s1 append 4\nquiet\nsent 9 s1>c1 refused 2 locked b 1\nsent 10 s1>c1 refused 3 locked b 1\nquiet\nclient 1 mark 0\nclient 1 mark 0\nnone\n";
+    expect(&rt, schedule.as_slice(), 0, text.as_slice())
+}
+
+#[test]
+fn the_1025th_pending_append_finds_a_full_window(rt: HostRuntime) -> Result<(), Fail> {
+    let mut schedule =
+        b"cluster 1 1 1 2 64\nread 1\ncas 1\ntick 1\nnext\nnext\ntick 1\nnext\nnext\n".to_vec(
+            rt.alloc(),
+        )?;
+    for _ in 0..1025 {
+        schedule.extend_from_slice(b"append 1 1 - - -\n")?;
+    }
+    for _ in 0..1025 {
+        schedule.extend_from_slice(b"next\n")?;
+    }
+    let got = replayed(rt.alloc(), &schedule, 512, &[], &[])?;
+    assert_eq!(rt; got.status, 0);
+    let last = b"\nquiet\nsent 1030 s1>c1 refused 1025 windowfull\n";
+    assert!(rt; got.text.ends_with(last.as_slice()));
+    Ok(())
+}
+
+#[test]
+fn an_append_that_a_client_would_not_build_is_unbuilt(rt: HostRuntime) -> Result<(), Fail> {
+    let lines: [&[u8]; 10] = [
+        b"append 1 1 a - set b 5",
+        b"append 1 1 - a set a 5",
+        b"append 1 1 a a -",
+        b"append 1 1 a,a - -",
+        b"append 1 1 a - set a 05",
+        b"append 1 1 a - set a 1000000001",
+        b"append 1 1 a - set a 5;",
+        b"append 1 1 a - put a 5",
+        b"append 1 1 a, - -",
+        b"append 1 1 a -",
+    ];
+    for line in lines {
+        let mut schedule = b"cluster 1 1 1 2 64\nnext\n".to_vec(rt.alloc())?;
+        schedule.extend_from_slice(line)?;
+        expect(&rt, &schedule, 3, b"none\n! line 3 unbuilt\n".as_slice())?;
+    }
+    Ok(())
+}
+
 #[test]
 fn an_idle_server_sends_nothing(rt: HostRuntime) -> Result<(), Fail> {
     let schedule = b"cluster 1 1 1 2 64\ntick 1\nread 1\ntick 1\nnext\n";

@@ -1,5 +1,5 @@
 use Rattle.std.proofs.Common.{arith, rules, refl}
-use Rattle.waltz_cli.proofs.Going.{first_ends, going_first, going_written, going_more, going_write_ends, going_turn_ends, going_last}
+use Rattle.waltz_cli.proofs.Going.{first_ends, no_world, going_first, going_written, going_more, going_write_ends, going_turn_ends, going_last}
 use Rattle.waltz_cli.proofs.events.replay.Goals as goal
 
 pub returns-in-Err-clause-reaches : goal.returns-in-Err-clause-reaches
@@ -7,7 +7,7 @@ returns-in-Err-clause-reaches g c = first_ends _ _ _ _ c.read_first.new.input.pe
 
 pub loop-event-init : goal.loop-event-init
 loop-event-init g c = record {
-  going = going_first _ _ _ _ _ _ c.in-Ok.cluster c.new-input.ensures c.requires c.in-Ok.ensures.first c.new.ensures.cluster c.new.ensures.start refl;
+  going = going_first _ _ _ _ _ _ c.in-Ok.cluster c.new-input.ensures c.requires c.in-Ok.ensures.first (search rules) (search rules) (search rules) refl;
   read = c.in-Ok.ensures.read;
   write = search rules;
 }
@@ -34,3 +34,6 @@ returns-in-Err-turn-clause-reaches g c =
 pub returns-clause-reaches : goal.returns-clause-reaches
 returns-clause-reaches g c =
     going_last _ _ _ _ _ c.read_last.new.input.pending _ _ _ _ (omega arith) c.loop-event.invariant.going c.read_last.ensures.last c.read_last.ensures.empty
+
+pub returns-in_default-clause-reaches : goal.returns-in_default-clause-reaches
+returns-in_default-clause-reaches g c = no_world _ _ _ _ c.requires

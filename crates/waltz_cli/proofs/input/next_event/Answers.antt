@@ -2,6 +2,5 @@ use Rattle.std.proofs.Common.{rules}
 use Rattle.waltz_cli.proofs.Reading.{next_line_is}
 use Rattle.waltz_cli.proofs.input.next_event.Goals as goal
 
-pub returns-in-Ok-Line-clause-next : goal.returns-in-Ok-Line-clause-next
-returns-in-Ok-Line-clause-next g c =
-    next_line_is _ _ _ _ c.deref.result.now _ (search rules) c.built_event.ensures
+pub returns-in-Ok-clause-next : goal.returns-in-Ok-clause-next
+returns-in-Ok-clause-next g c = next_line_is _ _ _ _ c.deref.result.now c.in-Ok.next (search rules) (search rules)

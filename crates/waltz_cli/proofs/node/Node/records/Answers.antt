@@ -1,7 +1,7 @@
 use Rattle.std.proofs.Common.{◌≡◌, ◌-◌, length, drop, take, ap, refl, arith}
 use Rattle.std.proofs.lemmas.List.{length-drop}
 use Rattle.tx_model.specs.Records.{IsBatch}
-use Rattle.schedule_text.specs.Replicas.{ReplicaState}
+use Rattle.proto_model.specs.Replicas.{ReplicaState}
 use Rattle.waltz_cli.proofs.NodeLemmas.{IsBatch-part}
 use Rattle.waltz_cli.proofs.node.Node.records.Goals as goal
 

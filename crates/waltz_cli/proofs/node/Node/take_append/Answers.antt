@@ -1,5 +1,5 @@
 use Rattle.std.proofs.Common.{◌≡◌, length, ap, arith}
-use Rattle.schedule_text.specs.Replicas.{ReplicaState}
+use Rattle.proto_model.specs.Replicas.{ReplicaState}
 use Rattle.waltz_cli.proofs.NodeLemmas.{IsReplica-grown}
 use Rattle.waltz_cli.proofs.node.Node.take_append.Goals as goal
 

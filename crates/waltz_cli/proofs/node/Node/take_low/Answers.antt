@@ -1,5 +1,5 @@
 use Rattle.std.proofs.Common.{◌≡◌, length, ap, arith, rules}
-use Rattle.schedule_text.specs.Replicas.{ReplicaState}
+use Rattle.proto_model.specs.Replicas.{ReplicaState}
 use Rattle.waltz_cli.proofs.NodeLemmas.{IsReplica-lowered}
 use Rattle.waltz_cli.proofs.node.Node.take_low.Goals as goal
 

@@ -1,5 +1,5 @@
 use Rattle.std.proofs.Common.{◌≡◌, ap, arith, rules}
-use Rattle.schedule_text.specs.Replicas.{ReplicaState, next_staged}
+use Rattle.proto_model.specs.Replicas.{ReplicaState, next_staged}
 use Rattle.waltz_cli.proofs.NodeLemmas.{IsReplica-staged}
 use Rattle.waltz_cli.proofs.node.Node.take_stage.Goals as goal
 

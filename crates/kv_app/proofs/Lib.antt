@@ -1,0 +1,13 @@
+pub mod Separators
+pub mod PlaceLemmas
+pub mod AmountLemmas
+pub mod AmountTexts
+pub mod KeyLemmas
+pub mod PieceLemmas
+pub mod OpTexts
+pub mod PieceRuns
+pub mod Makings
+pub mod WordTexts
+pub mod NumberLemmas
+pub mod TextLemmas
+pub mod TouchLemmas

@@ -1,0 +1,148 @@
+//! The map behind an application. A key whose number is `None` is one that room was made for.
+ghost use Rattle.std.specs.Prelude.{◌≡◌, ◌++◌, ℕ, List, All, IfOk, OnOk, OnErr};
+ghost use Rattle.std.specs.Option.{IsSome};
+ghost use Rattle.tx_model.specs.Applications.{after_op, after_ops, application_text, pair_text};
+ghost use Rattle.kv_app.specs.Numbers.{application_of, entry_at, entry_text, HasRoom, number_after};
+
+use crate::touched::key_of;
+use std::alloc::{AllocError, Global};
+use std::collections::BTreeMap;
+use tx_model::Op;
+
+pub(crate) type Numbers = BTreeMap<Vec<u8>, Option<i64>>;
+
+// Gives a key an entry. It has no number where it is new.
+fn make_entry(alloc: Global, numbers: &mut Numbers, key: &[u8]) -> Result<(), AllocError>
+    ensures same { application_of (λ k. k.items) numbers.new.entries ≡ application_of (λ k. k.items) numbers.old.entries }
+    ensures made { OnOk result (IsSome (entry_at (λ k. k.items) numbers.new.entries key.now)) }
+    ensures kept { (q : List ℕ) → IsSome (entry_at (λ k. k.items) numbers.old.entries q) → IsSome (entry_at (λ k. k.items) numbers.new.entries q) }
+{
+    if numbers.contains_key(key) {
+        return Ok(());
+    }
+    let key = key.to_vec(alloc)?;
+    match numbers.insert(key, None) {
+        Ok(_) => Ok(()),
+        Err(_) => Err(AllocError),
+    }
+}
+
+// Gives each key that is to have a number an entry.
+fn make_room(alloc: Global, numbers: &mut Numbers, ops: &[Op]) -> Result<(), AllocError>
+    ensures same { application_of (λ k. k.items) numbers.new.entries ≡ application_of (λ k. k.items) numbers.old.entries }
+    ensures made { OnOk result (All (HasRoom (λ k. k.items) numbers.new.entries) ops.now) }
+{
+    for op in ops {
+        match op {
+            Op::Set(key, _) | Op::Add(key, _) => make_entry(alloc, numbers, key.bytes())?,
+            Op::Del(_) => {}
+        }
+    }
+    Ok(())
+}
+
+/// The number that an operation leaves at its key.
+pub(crate) fn number_after(number: Option<i64>, op: &Op) -> Option<i64>
+    ensures { result ≡ number_after number op.now }
+{
+    match op {
+        Op::Set(_, amount) => Some(*amount),
+        Op::Add(_, amount) => Some(number.unwrap_or(0).saturating_add(*amount)),
+        Op::Del(_) => None,
+    }
+}
+
+// Does one operation that has room.
+fn change(numbers: &mut Numbers, op: &Op)
+    requires { HasRoom (λ k. k.items) numbers.old.entries op.now }
+    ensures changed { application_of (λ k. k.items) numbers.new.entries ≡ after_op (application_of (λ k. k.items) numbers.old.entries) op.now }
+    ensures kept { (q : List ℕ) → IsSome (entry_at (λ k. k.items) numbers.old.entries q) → IsSome (entry_at (λ k. k.items) numbers.new.entries q) }
+{
+    if let Some(number) = numbers.get_mut(key_of(op).bytes()) {
+        *number = number_after(*number, op);
+    }
+}
+
+// Takes away a key that has no number.
+fn drop_empty(numbers: &mut Numbers, key: &[u8])
+    ensures { application_of (λ k. k.items) numbers.new.entries ≡ application_of (λ k. k.items) numbers.old.entries }
+{
+    if let Some(None) = numbers.get(key) {
+        numbers.remove(key);
+    }
+}
+
+// Takes away the keys of the operations that have no number.
+fn sweep(numbers: &mut Numbers, ops: &[Op])
+    ensures { application_of (λ k. k.items) numbers.new.entries ≡ application_of (λ k. k.items) numbers.old.entries }
+{
+    for op in ops {
+        drop_empty(numbers, key_of(op).bytes());
+    }
+}
+
+// Does the operations in order. Each has room.
+fn change_each(numbers: &mut Numbers, ops: &[Op])
+    requires { All (HasRoom (λ k. k.items) numbers.old.entries) ops.now }
+    ensures { application_of (λ k. k.items) numbers.new.entries ≡ after_ops (application_of (λ k. k.items) numbers.old.entries) ops.now }
+{
+    for op in ops {
+        change(numbers, op);
+    }
+}
+
+/// Does the operations in order, or none of them for want of memory.
+pub(crate) fn change_all(alloc: Global, numbers: &mut Numbers, ops: &[Op]) -> Result<(), AllocError>
+    ensures ok { OnOk result (application_of (λ k. k.items) numbers.new.entries ≡ after_ops (application_of (λ k. k.items) numbers.old.entries) ops.now) }
+    ensures err { OnErr result (application_of (λ k. k.items) numbers.new.entries ≡ application_of (λ k. k.items) numbers.old.entries) }
+{
+    match make_room(alloc, numbers, ops) {
+        Ok(()) => {
+            change_each(numbers, ops);
+            sweep(numbers, ops);
+            Ok(())
+        }
+        Err(fault) => {
+            sweep(numbers, ops);
+            Err(fault)
+        }
+    }
+}
+
+// Puts a space and key=value behind the text.
+fn put_pair(alloc: Global, text: &mut Vec<u8>, key: &[u8], number: i64) -> Result<(), AllocError>
+    ensures { OnOk result (text.new.items ≡ text.old.items ++ pair_text (key.now, number)) }
+{
+    text.push(b' ')?;
+    text.extend_from_slice(key)?;
+    text.push(b'=')?;
+    let number = format!(in alloc; "{number}")?;
+    text.extend_from_slice(number.as_bytes())?;
+    Ok(())
+}
+
+// Puts the same behind the text where the key has a number.
+fn put_entry(
+    alloc: Global,
+    text: &mut Vec<u8>,
+    key: &[u8],
+    number: Option<i64>,
+) -> Result<(), AllocError>
+    ensures { OnOk result (text.new.items ≡ text.old.items ++ entry_text key.now number) }
+{
+    match number {
+        Some(number) => put_pair(alloc, text, key, number),
+        None => Ok(()),
+    }
+}
+
+/// A space and key=value for each key that has a number.
+pub(crate) fn text_of(alloc: Global, numbers: &Numbers) -> Result<Vec<u8>, AllocError>
+    ensures { IfOk result (λ text. text.items ≡ application_text (application_of (λ k. k.items) numbers.now.entries)) }
+{
+    let mut text = Vec::new(alloc);
+    for (key, number) in numbers {
+        put_entry(alloc, &mut text, key, *number)?;
+    }
+    Ok(text)
+}

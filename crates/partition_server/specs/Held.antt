@@ -1,0 +1,72 @@
+-- What a partition server holds, as plain lists and numbers, and the state that it stands for.
+use Rattle.std.specs.Prelude.{◌≡◌, ℕ, ◌≤◌, ◌&&◌, nat_le, Bool, true, false, List, [], length, slice_index, slice_index_or}
+use Rattle.tx_model.specs.declared.record.Record.{Record}
+use Rattle.tx_model.specs.Records.{IsPlace, RiseByOne}
+use Rattle.proto_model.specs.declared.message.Report.{Report}
+use Rattle.proto_model.specs.declared.message.Phase.{Phase}
+use Rattle.proto_model.specs.declared.message.Phase.TheVariants.{Opening, Repairing, Running}
+use Rattle.lock_table.specs.Tables.{Table, shape_of, TableStandsFor}
+use Rattle.proto_model.specs.Quorums.{quorum}
+use Rattle.proto_model.specs.Servers.{Setting, ServerState, Waiting, base, in_repair, is_active}
+
+-- of each node one place in a list: that of the node's number, so that the first place is of no node
+pub record Held : Type 0 where
+  pub nodes : ℕ
+  pub rows : ℕ
+  pub slots : ℕ
+  pub phase : Phase
+  pub session : ℕ
+  pub log : List Record
+  pub reports : List Report
+  pub reported : List Bool
+  pub staged : List ℕ
+  pub lows : List ℕ
+  pub adopted : List Bool
+  pub acked : List ℕ
+  pub waiting : List Waiting
+
+abbrev pub setting_of : Held → Setting
+setting_of h = record { nodes = h.nodes; rows = h.rows; slots = h.slots }
+
+-- a list as a table, counted from 0; what is not in the list is other
+abbrev pub column : {A : Type 0} → A → List A → ℕ → A
+column other xs i = slice_index_or xs i other
+
+abbrev pub state_of : Held → ServerState
+state_of h = record {
+  phase = h.phase;
+  session = h.session;
+  log = h.log;
+  reports = h.reports;
+  reported = column false h.reported;
+  staged = column 0 h.staged;
+  low = column 0 h.lows;
+  adopted = column false h.adopted;
+  acked = column 0 h.acked;
+  waiting = h.waiting;
+}
+
+-- a node has adopted, and acknowledged k or more
+abbrev pub has_acked : List Bool → List ℕ → ℕ → ℕ → Bool
+has_acked adopted acked k i = column false adopted i && nat_le k (column 0 acked i)
+
+-- what is true of each server, with its lock table
+pub record IsHeld (h : Held) (locks : Table) : Type 0 where
+  pub some : 1 ≤ h.nodes
+  pub few : h.nodes ≤ 7
+  pub shape : shape_of locks ≡ record { rows = h.rows; slots = h.slots }
+  pub reported : length h.reported ≡ 8
+  pub staged : length h.staged ≡ 8
+  pub lows : length h.lows ≡ 8
+  pub adopted : length h.adopted ≡ 8
+  pub acked : length h.acked ≡ 8
+  pub session : is_active h.phase ≡ true → IsPlace h.session
+  -- the log's records are valid, and have the ids from 1 on
+  pub rise : RiseByOne 1 h.log
+  pub empty : h.phase ≡ Opening → h.log ≡ []
+  pub chose : in_repair h.phase ≡ true → quorum h.nodes ≤ length h.reports
+  pub whole : h.phase ≡ Repairing → length h.log ≡ base (setting_of h) (state_of h)
+  pub long : in_repair h.phase ≡ true → base (setting_of h) (state_of h) ≤ length h.log
+  pub within : (i : ℕ) → slice_index h.acked i ≤ length h.log
+  -- the table has what a scan of the records above the recovered mark finds
+  pub stands : h.phase ≡ Running → TableStandsFor locks (base (setting_of h) (state_of h)) h.log

@@ -1,0 +1,146 @@
+ghost use Rattle.std.specs.Prelude.{◌≡◌, ◌≢◌, ◌<◌, ◌≤◌, ◌+◌, ◌*◌, ◌⊎◌, [], true, length, slice_index_or, None, IfOk, IfErr, OnOk, OnErr};
+ghost use Rattle.tx_model.specs.Transactions.{named_locks};
+ghost use Rattle.tx_model.specs.Records.{IsPlace, IsRecord};
+ghost use Rattle.proto_model.specs.Serving.{after_append, append_refusal, assigned, last_id, no_room};
+ghost use Rattle.partition_server.specs.Held.{setting_of, state_of};
+ghost use Rattle.partition_server.specs.Faults.{refusal_of, takes_memory};
+
+use super::Server;
+use crate::{AppendFault, Waiting};
+use proto_model::Phase;
+use std::alloc::{AllocError, Global};
+use std::sync::ledger::Ledger;
+use tx_model::{Lock, Record, Steps, Tx};
+
+// So many records are not committed at most.
+const WINDOW: u64 = 1024;
+
+// The greatest id.
+const LAST_ID: u64 = 281_474_976_710_655;
+
+impl Server {
+    /// Assigns the next id to a transaction, whose client and request wait under it from then on, or refuses it. A
+    /// refused transaction leaves no trace. Each probed row of the lock table is a step.
+    pub fn append<L: Ledger>(&mut self, tx: Tx, steps: &mut Steps<L>) -> Result<u64, AppendFault>
+        ensures taken { OnOk result (append_refusal (setting_of self.old) (state_of self.old) tx ≡ None) }
+        ensures id { IfOk result (λ id. id ≡ length self.old.log + 1) }
+        ensures after { OnOk result (state_of self.new ≡
+            after_append (setting_of self.old) (state_of self.old) tx) }
+        ensures setting { setting_of self.new ≡ setting_of self.old }
+
+        // The refusals. Want of memory is one only where no other is.
+        ensures refused { IfErr result (λ fault. (fault ≡ AppendFault.Memory) ⊎
+            (refusal_of fault ≡ append_refusal (setting_of self.old) (state_of self.old) tx)) }
+        ensures memory { result ≡ Err AppendFault.Memory →
+            takes_memory (append_refusal (setting_of self.old) (state_of self.old) tx) ≡ true }
+        ensures kept { OnErr result (self.new ≡ self.old) }
+
+        ensures cost { steps.new ≤ steps.old + self.old.rows * length (named_locks tx) }
+    {
+        self.admit(&tx, steps)?;
+        match self.assign(tx) {
+            Ok(id) => Ok(id),
+            Err(_) => Err(AppendFault::Memory),
+        }
+    }
+
+    // Whether a transaction is taken.
+    fn admit<L: Ledger>(&self, tx: &Tx, steps: &mut Steps<L>) -> Result<(), AppendFault>
+        ensures taken { OnOk result (append_refusal (setting_of self.now) (state_of self.now) tx.now ≡ None) }
+        ensures refused { IfErr result (λ fault. (fault ≡ AppendFault.Memory) ⊎
+            (refusal_of fault ≡ append_refusal (setting_of self.now) (state_of self.now) tx.now)) }
+        ensures memory { result ≡ Err AppendFault.Memory →
+            takes_memory (append_refusal (setting_of self.now) (state_of self.now) tx.now) ≡ true }
+        ensures running { OnOk result (self.now.phase ≡ Phase.Running) }
+        ensures room { OnOk result (length self.now.log < last_id) }
+        ensures cost { steps.new ≤ steps.old + self.now.rows * length (named_locks tx.now) }
+    {
+        match self.phase {
+            Phase::Running => {}
+            Phase::Closed(session) => return Err(AppendFault::Closed(session)),
+            phase => return Err(AppendFault::NotRunning(phase)),
+        }
+        let last = self.log.len() as u64;
+        if tx.mark() > last {
+            return Err(AppendFault::MarkAhead(last));
+        }
+        if let Err(at) = self.locks.admit(tx, steps) {
+            return Err(locked(self.alloc, tx, at.place, at.mark));
+        }
+        check_room(last, self.committed())
+    }
+
+    // Gives a transaction the next id.
+    fn assign(&mut self, tx: Tx) -> Result<u64, AllocError>
+        requires running { self.old.phase ≡ Phase.Running }
+        requires room { length self.old.log < last_id }
+        ensures id { IfOk result (λ id. id ≡ length self.old.log + 1) }
+        ensures after { OnOk result (state_of self.new ≡ assigned (state_of self.old) tx) }
+        ensures setting { setting_of self.new ≡ setting_of self.old }
+        ensures kept { OnErr result (self.new ≡ self.old) }
+    {
+        let id = self.log.len() as u64 + 1;
+        self.log.reserve(1)?;
+        self.waiting
+            .push(Waiting::new(id, tx.client(), tx.request()))?;
+        self.locks.note(id, &tx);
+        match self.log.push(assigned_record(id, self.session, tx)) {
+            Ok(()) => Ok(id),
+            Err(_) => unreachable!(),
+        }
+    }
+}
+
+// The record of an id. A transaction is always a valid one.
+fn assigned_record(id: u64, session: u64, tx: Tx) -> Record
+    requires id { IsPlace id }
+    requires session { IsPlace session }
+    ensures value { result ≡ record { id = id; session = session; tx = tx } }
+    ensures valid { IsRecord result }
+{
+    let _ = tx.reads();
+    Record { id, session, tx }
+}
+
+// The fault that tells the lock of this place among the named ones.
+fn locked(alloc: Global, tx: &Tx, place: u8, mark: u64) -> AppendFault
+    requires { place < length (named_locks tx.now) }
+    ensures { (result ≡ AppendFault.Memory) ⊎
+        (result ≡ AppendFault.Locked (slice_index_or (named_locks tx.now) place []) mark) }
+{
+    match named_lock(tx, place).copy(alloc) {
+        Ok(lock) => AppendFault::Locked(lock, mark),
+        Err(_) => AppendFault::Memory,
+    }
+}
+
+// A named lock by its place: read locks stand before write locks.
+fn named_lock<'a>(tx: &'a Tx, place: u8) -> &'a Lock
+    requires { place < length (named_locks tx.now) }
+    ensures { result.now ≡ slice_index_or (named_locks tx.now) place [] }
+{
+    let reads = tx.reads();
+    let writes = tx.writes();
+    let place = place as usize;
+    if place < reads.len() {
+        &reads[place]
+    } else {
+        &writes[place - reads.len()]
+    }
+}
+
+// Whether there is room for one more record after so many, of which so many are committed.
+fn check_room(last: u64, committed: u64) -> Result<(), AppendFault>
+    requires { committed ≤ last }
+    ensures ok { OnOk result (no_room last committed ≡ None) }
+    ensures room { OnOk result (last ≢ last_id) }
+    ensures err { IfErr result (λ fault. refusal_of fault ≡ no_room last committed) }
+{
+    if last - committed == WINDOW {
+        return Err(AppendFault::WindowFull);
+    }
+    if last == LAST_ID {
+        return Err(AppendFault::LogFull);
+    }
+    Ok(())
+}

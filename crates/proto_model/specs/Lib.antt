@@ -1,0 +1,10 @@
+pub mod Tables
+pub mod Quorums
+pub mod Choices
+pub mod Replicas
+pub mod Servers
+pub mod Sending
+pub mod Serving
+pub mod Clients
+pub mod Validity
+pub mod Sanity

@@ -1,0 +1,52 @@
+-- The parts of an append's line: words that are lists of keys, and the ops at its end.
+use Rattle.std.specs.Prelude.{◌≡◌, ℕ, List, ◌++◌, ◌∷◌, codes, decimal, ⊤}
+use Rattle.std.specs.List.{AllByRecursion}
+use Rattle.tx_model.specs.Applications.{IsKey}
+use Rattle.schedule_text.specs.declared.event.Cluster.{Cluster}
+use Rattle.schedule_text.specs.declared.event.Event.{Event}
+use Rattle.schedule_text.specs.declared.event.Event.TheVariants.{Append}
+use Rattle.schedule_text.specs.Events.{AreOps, keys_spelling, ops_word, SpellsEvent, IsInRange}
+use Rattle.schedule_text.specs.Words.{IsWithin}
+
+-- a word is this list of keys
+pub record SpellsKeys (word : List ℕ) (keys : List (List ℕ)) : Type 0 where
+  pub valid : AllByRecursion IsKey keys
+  pub text : word ≡ keys_spelling keys
+
+-- a word is some list of keys
+abbrev pub IsKeysWord : List ℕ → Type 0
+IsKeysWord word = (keys : List (List ℕ)) × SpellsKeys word keys
+
+-- bytes to the end of a line are these ops
+pub record SpellsOpsWord (word ops : List ℕ) : Type 0 where
+  pub valid : AreOps ops
+  pub text : word ≡ ops_word ops
+
+-- bytes to the end of a line are some ops
+abbrev pub IsOpsWord : List ℕ → Type 0
+IsOpsWord word = (ops : List ℕ) × SpellsOpsWord word ops
+
+-- what stands behind the word of an append: two numbers, two words and the rest of the line
+abbrev pub append_rest : ℕ → ℕ → List ℕ → List ℕ → List ℕ → List ℕ
+append_rest client server writes reads ops =
+    decimal client ++ 32 ∷ (decimal server ++ 32 ∷ (writes ++ 32 ∷ (reads ++ 32 ∷ ops)))
+
+-- a text is these parts, with so many clients and servers at most
+pub record IsAppendRest (clients servers : ℕ) (text : List ℕ) (client server : ℕ) (writes reads ops : List ℕ) : Type 0 where
+  pub text_is : text ≡ append_rest client server writes reads ops
+  pub client_in : IsWithin clients client
+  pub server_in : IsWithin servers server
+  pub write_keys : IsKeysWord writes
+  pub read_keys : IsKeysWord reads
+  pub some_ops : IsOpsWord ops
+
+-- there is no append in range whose line this ends behind its word
+abbrev pub IsNoAppend : Cluster → List ℕ → Type 0
+IsNoAppend cluster text =
+    (client server : ℕ) (writes reads : List (List ℕ)) (ops : List ℕ) →
+    SpellsEvent (codes "append " ++ text) (Append client server writes reads ops) →
+    ¬ IsInRange cluster (Append client server writes reads ops)
+
+abbrev pub IsAppend : Event → Type 0
+IsAppend (Append client server writes reads ops) = ⊤
+IsAppend _ = ⊥
