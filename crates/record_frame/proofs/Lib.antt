@@ -6,3 +6,4 @@ pub mod Records
 pub mod Metas
 pub mod Results
 pub mod Puts
+pub mod FrontFrames

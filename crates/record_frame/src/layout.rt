@@ -28,8 +28,8 @@ pub fn u64_in(bytes: &[u8], at: usize) -> u64
     u64::from_be_bytes([b[0], b[1], b[2], b[3], b[4], b[5], b[6], b[7]])
 }
 
-/// Whether a name stands at the front.
-fn is_name(bytes: &[u8]) -> bool
+/// Whether a name behind its length stands at the front, and whatever follows.
+pub fn is_name(bytes: &[u8]) -> bool
     ensures { result ≡ is_name_at bytes.now }
 {
     if bytes.is_empty() {
@@ -40,7 +40,7 @@ fn is_name(bytes: &[u8]) -> bool
 }
 
 /// The name at the front, and the bytes after it.
-pub(crate) fn split_name(bytes: &[u8]) -> (&[u8], &[u8])
+pub fn split_name(bytes: &[u8]) -> (&[u8], &[u8])
     requires { is_name_at bytes.now ≡ true }
     ensures name { result.0.now ≡ name_at bytes.now }
     ensures after { result.1.now ≡ after_name bytes.now }
@@ -148,7 +148,7 @@ fn is_payload(bytes: &[u8]) -> bool
 
 /// Whether the bytes are those of a transaction, and nothing more.
 #[tactic(auto, unfolding(crate::specs::Reading::is_transaction))]
-fn is_transaction(bytes: &[u8]) -> bool
+pub fn is_transaction(bytes: &[u8]) -> bool
     ensures { result ≡ is_transaction bytes.now }
 {
     if bytes.len() < 24 {

@@ -18,10 +18,11 @@ mod writing;
 
 pub use fault::FrameFault;
 pub use laws::{
-    metas_have_one_spelling, metas_stand_alone, records_have_one_spelling, records_stand_alone,
+    meta_frames_stand_alone, metas_have_one_spelling, metas_stand_alone, record_frames_stand_alone,
+    records_have_one_spelling, records_stand_alone,
 };
-pub use layout::{after_lists, is_body, u32_in, u64_in};
+pub use layout::{after_lists, is_body, is_name, is_transaction, split_name, u32_in, u64_in};
 pub use meta::{META_FRAME, decode_meta, encode_meta};
 pub use ranges::{is_count, is_next_place, is_place};
-pub use reading::{check_record, decode_record, locks_of, record_of};
-pub use writing::{body_len, encode_record, put_locks, put_record};
+pub use reading::{check_record, decode_record, framed_id, locks_of, record_of, transaction_of};
+pub use writing::{body_len, encode_record, put_locks, put_name, put_record, put_transaction};

@@ -1,8 +1,9 @@
 //! Frames as records.
-ghost use Rattle.std.specs.Prelude.{◌≡◌, ◌≢◌, ◌↔◌, ◌++◌, ℕ, List, [], true, length, Ok, IfOk, IfErr, MatchResult};
+ghost use Rattle.std.specs.Prelude.{◌≡◌, ◌≢◌, ◌↔◌, ◌<◌, ◌++◌, ℕ, List, [], true, length, Ok, IfOk, IfErr, MatchResult};
 ghost use Rattle.tx_model.specs.declared.record.Record.{Record as RecordValue};
 ghost use Rattle.tx_model.specs.Spelling.{SpellsRecord, SpellsRecordBody};
 ghost use Rattle.record_frame.specs.Reading.{are_names, names_of, past_names, are_lists, reads_of, writes_of, after_lists, is_transaction, transaction_of, is_body, record_of, is_record_length, frame_at, record_at, IsOfBytes, BeginsWith, Checks, Builds, OkOrMemory};
+ghost use Rattle.record_frame.specs.Framing.{record_len, framed_record};
 ghost use Rattle.record_frame.specs.Faults.{IsRecordLength, IsRecordBody, IsShort, IsBadAt, BeginsWithRecord};
 
 use crate::fault::FrameFault;
@@ -43,7 +44,7 @@ pub fn locks_of(alloc: Global, bytes: &[u8]) -> Result<(Vec<Lock>, Vec<Lock>, &[
 
 /// The transaction that the bytes spell.
 #[tactic(auto, using(crate::proofs::Parts::is_transaction_tells), unfolding(crate::specs::Reading::transaction_of))]
-fn transaction_in(alloc: Global, bytes: &[u8]) -> Result<Tx, AllocError>
+pub fn transaction_of(alloc: Global, bytes: &[u8]) -> Result<Tx, AllocError>
     requires { is_transaction bytes.now ≡ true }
     ensures { IfOk result (λ tx. tx ≡ transaction_of bytes.now) }
 {
@@ -63,7 +64,7 @@ fn build(alloc: Global, body: &[u8]) -> Result<Record, AllocError>
     ensures { IfOk result (λ r. r ≡ record_of body.now) }
 {
     let (_, rest) = body.split_at(17);
-    let tx = transaction_in(alloc, rest)?;
+    let tx = transaction_of(alloc, rest)?;
     Ok(Record {
         id: u64_in(body, 1),
         session: u64_in(body, 9),
@@ -131,6 +132,12 @@ pub fn check_record(bytes: &[u8]) -> Result<usize, FrameFault>
     ensures only { (r : RecordValue) (spelled rest : List ℕ) →
         SpellsRecord spelled r → bytes.now ≡ spelled ++ rest → result ≡ Ok (length spelled) }
 
+    // As a framing says it: a length, or none, and what is bad stays so whatever follows.
+    ensures len { MatchResult result
+        (λ len. (len ≡ record_len bytes.now) × (0 < len)) (λ _. record_len bytes.now ≡ 0) }
+    ensures stays { IfErr result
+        (λ fault. fault ≢ FrameFault.Short → (rest : List ℕ) → record_len (bytes.now ++ rest) ≡ 0) }
+
     // The refusals, each by its cause.
     ensures short { (result ≡ Err FrameFault.Short) ↔ IsShort IsRecordLength bytes.now }
     ensures bad { (at : ℕ) → (result ≡ Err (FrameFault.Bad at)) ↔
@@ -140,11 +147,22 @@ pub fn check_record(bytes: &[u8]) -> Result<usize, FrameFault>
     check(bytes)
 }
 
+/// The id of the record whose whole and right frame stands at the front. It reads the id alone, and checks nothing.
+pub fn framed_id(bytes: &[u8]) -> u64
+    requires { 0 < record_len bytes.now }
+    ensures { result ≡ (framed_record bytes.now).id }
+{
+    u64_in(bytes, 5)
+}
+
 /// The record of the frame at the front, and the frame's length. What follows the frame doesn't matter. The memory that
 /// it takes is bounded by the frame's length.
 pub fn decode_record(alloc: Global, bytes: &[u8]) -> Result<(Record, usize), FrameFault>
     ensures exact { Builds result (record_at bytes.now) }
     ensures found { IfOk result (λ x. BeginsWith SpellsRecord bytes.now x.0 x.1) }
+    ensures framed { MatchResult result
+        (λ x. (x.0 ≡ framed_record bytes.now) × (x.1 ≡ record_len bytes.now))
+        (λ fault. fault ≢ FrameFault.Memory → record_len bytes.now ≡ 0) }
     ensures only { (r : RecordValue) (spelled rest : List ℕ) →
         SpellsRecord spelled r → bytes.now ≡ spelled ++ rest → OkOrMemory result (r, length spelled) }
 

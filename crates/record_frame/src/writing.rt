@@ -1,7 +1,7 @@
 //! Records as frames.
 ghost use Rattle.std.specs.Prelude.{◌≡◌, ◌+◌, ◌*◌, ◌≤◌, ◌++◌, length, OnOk, OnErr};
 ghost use Rattle.tx_model.specs.Records.{IsRecord};
-ghost use Rattle.tx_model.specs.Spelling.{spelled_names, spelled_locks, spelled_transaction, record_body, record_frame};
+ghost use Rattle.tx_model.specs.Spelling.{spelled_name, spelled_names, spelled_locks, spelled_transaction, record_body, record_frame};
 
 use crate::framing::check_of;
 use std::alloc::{AllocError, Global};
@@ -30,13 +30,21 @@ pub fn body_len(entry: &Record) -> usize
     47 + names_len(reads) + names_len(writes) + entry.tx.payload().len()
 }
 
+/// Adds the name of a lock behind its length. On an error some of it may stand at the end.
+pub fn put_name(into: &mut Vec<u8>, lock: &Lock) -> Result<(), AllocError>
+    ensures { OnOk result (into.new.items ≡ into.old.items ++ spelled_name lock.now) }
+{
+    let name = lock.bytes();
+    into.push(name.len() as u8)?;
+    into.extend_from_slice(name)?;
+    Ok(())
+}
+
 fn put_names(into: &mut Vec<u8>, locks: &[Lock]) -> Result<(), AllocError>
     ensures { OnOk result (into.new.items ≡ into.old.items ++ spelled_names locks.now) }
 {
     for lock in locks {
-        let name = lock.bytes();
-        into.push(name.len() as u8)?;
-        into.extend_from_slice(name)?;
+        put_name(into, lock)?;
     }
     Ok(())
 }
@@ -53,7 +61,8 @@ pub fn put_locks(into: &mut Vec<u8>, reads: &[Lock], writes: &[Lock]) -> Result<
     Ok(())
 }
 
-fn put_transaction(into: &mut Vec<u8>, tx: &Tx) -> Result<(), AllocError>
+/// Adds the fields of a transaction. On an error some of it may stand at the end.
+pub fn put_transaction(into: &mut Vec<u8>, tx: &Tx) -> Result<(), AllocError>
     ensures { OnOk result (into.new.items ≡ into.old.items ++ spelled_transaction tx.now) }
 {
     let reads = tx.reads();

@@ -7,6 +7,7 @@ use Rattle.record_frame.specs.Reading.{record_at, BeginsWith, Builds}
 use Rattle.record_frame.proofs.Parts.{IsBytes}
 use Rattle.record_frame.proofs.Records.{record_at-read, record_at-spelled, record_at-short, record_at-bad}
 use Rattle.record_frame.proofs.Results.{builds-only, builds-short, builds-bad, builds-memory}
+use Rattle.record_frame.proofs.FrontFrames.{builds-framed}
 use Rattle.record_frame.proofs.reading.decode_record.Goals as goal
 
 found : (result : Result (Record × ℕ) FrameFault) (bytes : List ℕ) → Builds result (record_at bytes) → IsBytes bytes → IfOk result (λ x. BeginsWith SpellsRecord bytes x.0 x.1)
@@ -35,3 +36,6 @@ pub returns-clause-memory : goal.returns-clause-memory
 returns-clause-memory c = λ e.
     let x = builds-memory c.decode.result _ c.decode.ensures e in
     (x.0.0, x.0.1, record_at-spelled c.args.bytes.now x.0 x.1 (λ i. omega (arith, c.type_inv.bytes i)))
+
+pub returns-clause-framed : goal.returns-clause-framed
+returns-clause-framed c = builds-framed c.decode.result c.args.bytes.now c.decode.ensures

@@ -1,0 +1,9 @@
+pub mod Runs
+pub mod Formats
+pub mod Batches
+pub mod Shapes
+pub mod KindLemmas
+pub mod Rereads
+pub mod Lengths
+pub mod Frames
+pub mod Writes

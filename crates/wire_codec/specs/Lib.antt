@@ -1,0 +1,5 @@
+pub mod Spelling
+pub mod Runs
+pub mod Reading
+pub mod Layouts
+pub mod Faults
