@@ -4,12 +4,14 @@ pub enum Job {
     Encode(u64),
     Decode(u64),
     Digest(u64),
+    Segment(u64),
 }
 
 /// The job that the words name.
 pub fn job_of(words: &[String]) -> Option<Job> {
     match words {
         [word, times] if word.as_str() == "digest" => Some(Job::Digest(times.parse().ok()?)),
+        [word, count] if word.as_str() == "segment" => Some(Job::Segment(count.parse().ok()?)),
         [frames, work, times] if frames.as_str() == "frames" => {
             let times = times.parse().ok()?;
             match work.as_str() {

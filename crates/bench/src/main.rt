@@ -1,11 +1,14 @@
 //! Measures frames against SHA-256 alone: `bench frames encode N`, `bench frames decode N` and `bench digest N` do this
-//! work N times, and print how many bytes that was and a sum that depends on all of it. It keeps no time itself.
+//! work N times, and print how many bytes that was and a sum that depends on all of it. `bench segment N` appends N
+//! records to a segment over a disk in memory, eight at a time, and loads it again. It keeps no time itself.
 #![tactic(auto)]
 
 mod job;
+mod segment;
 mod work;
 
 use job::{Job, job_of};
+use segment::append_and_load;
 use std::{env, io};
 use work::{Tally, decode, digest, encode};
 
@@ -16,13 +19,16 @@ fn main(rt: HostRuntime) -> io::Result<()> {
         words.push(word)?;
     }
     let Some(job) = job_of(&words) else {
-        println!(rt; "bench frames encode N | bench frames decode N | bench digest N")?;
+        println!(rt;
+            "bench frames encode N | bench frames decode N | bench digest N | bench segment N"
+        )?;
         return Ok(());
     };
     let Tally { bytes, sum } = match job {
         Job::Encode(times) => encode(alloc, times)?,
         Job::Decode(times) => decode(alloc, times)?,
         Job::Digest(times) => digest(alloc, times)?,
+        Job::Segment(count) => append_and_load(alloc, count)?,
     };
     println!(rt; "{bytes} bytes, sum {sum}")?;
     Ok(())

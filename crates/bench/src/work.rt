@@ -1,5 +1,5 @@
 //! The work that is measured, over records with two locks and a payload of 100 bytes.
-ghost use Rattle.std.specs.Prelude.{◌≤◌, ◌<◌, ◌^◌, IfOk};
+ghost use Rattle.std.specs.Prelude.{◌≡◌, ◌≤◌, ◌<◌, ◌^◌, IfOk};
 ghost use Rattle.tx_model.specs.Records.{IsRecord};
 
 use record_frame::{decode_record, encode_record};
@@ -27,10 +27,11 @@ impl Tally {
 }
 
 /// A record with a read lock and a write lock of eight bytes each.
-fn example(alloc: Global, id: u64) -> io::Result<Record>
+pub fn example(alloc: Global, id: u64) -> io::Result<Record>
     requires some { 1 ≤ id }
     requires below { id < 2 ^ 48 }
-    ensures { IfOk result IsRecord }
+    ensures valid { IfOk result IsRecord }
+    ensures id { IfOk result (λ r. r.id ≡ id) }
 {
     let mut reads = Vec::new(alloc);
     let mut writes = Vec::new(alloc);

@@ -1,0 +1,10 @@
+pub mod Walks
+pub mod Moments
+pub mod Images
+pub mod Appends
+pub mod Sound
+pub mod ByChance
+pub mod Replayed
+pub mod Kept
+pub mod Cached
+pub mod Keeping

@@ -1,0 +1,311 @@
+-- Where records stand: one more, some fewer, and what a place that is refused says.
+use Rattle.std.proofs.Common.{◌≡◌, ◌≢◌, inl, inr, ℕ, zero, suc, ◌+◌, ◌-◌, ◌<◌, ◌≤◌, List, [], ◌∷◌, ◌++◌, length, take, drop, get_or, refl, sym, ◌∙◌, ap, subst, arith, append_assoc, length-append, take-append-drop, Some}
+use Rattle.std.specs.Prelude.{slice_get}
+use Rattle.std.specs.List.{AllByRecursion}
+use Rattle.std.proofs.lemmas.List.{append-nil, map-append, length-map, drop_at, take-append-le, drop-append-le, length-take-le, drop-drop, take_all, get_or_past, get_or-map}
+use Rattle.std.proofs.lemmas.Bool.{cases_lt}
+use Rattle.tx_model.specs.declared.record.Record.{Record}
+use Rattle.tx_model.specs.Records.{IsRecord, RiseByOne}
+use Rattle.std.proofs.lemmas.Option.{slice_get-get_or}
+use Rattle.std.proofs.Math.ListN.{get_or-append}
+use Rattle.std.proofs.Math.Seq.{take-suc, drop-cons}
+use Rattle.tx_model.proofs.Batches.{RiseByOne-append, RiseByOne-front, RiseByOne-id}
+use Rattle.record_frame.specs.Framing.{record_len, framed_record}
+use Rattle.record_frame.proofs.Parts.{IsBytes}
+use Rattle.record_frame.proofs.FrontFrames.{record_len-within, record_len-alike, framed_record-alike, framed-spells}
+use Rattle.disk_model.specs.Frames.{IsFrame, IsFraming, joined, frames_in}
+use Rattle.disk_model.proofs.Walks.{joined-append, all-append, split, frames_in-joined}
+use Rattle.segment_store.specs.Records.{records_of, records_in}
+use Rattle.segment_store.specs.Index.{Index, count_of, starts_of, IsIndexOf, IsDamagedAt}
+
+-- ---- the framing of records
+
+-- the frame at the front, by itself
+pub front : (bs : List ℕ) → 0 < record_len bs → (record_len (take (record_len bs) bs) ≡ record_len bs) × (framed_record (take (record_len bs) bs) ≡ framed_record bs)
+front bs some =
+    let n = record_len bs in
+    let f = take n bs in
+    let long : length f ≡ n = length-take-le n bs (record_len-within bs) in
+    let same : take n f ≡ take n bs = take_all n f (omega arith) in
+    (record_len-alike bs f some (omega arith) same, framed_record-alike bs f some (omega arith) same)
+
+-- what follows a frame doesn't matter
+behind : (f rest : List ℕ) → IsFrame record_len f → (record_len (f ++ rest) ≡ length f) × (framed_record (f ++ rest) ≡ framed_record f)
+behind f rest is =
+    let whole : record_len f ≡ length f = is.whole in
+    let some : 0 < record_len f = omega (arith, is.some) in
+    let enough : record_len f ≤ length (f ++ rest) = omega (arith, length-append f rest) in
+    let same : take (record_len f) (f ++ rest) ≡ take (record_len f) f = take-append-le (record_len f) f rest (omega arith) in
+    (record_len-alike f (f ++ rest) some enough same ∙ whole, framed_record-alike f (f ++ rest) some enough same)
+
+pub framing : IsFraming record_len
+framing = record { fits = record_len-within; alone = λ f rest is. (behind f rest is).0; front = λ bs some. (front bs some).0 }
+
+pub first_frame : (bs : List ℕ) → 0 < record_len bs → IsFrame record_len (take (record_len bs) bs)
+first_frame bs some =
+    let long : length (take (record_len bs) bs) ≡ record_len bs = length-take-le (record_len bs) bs (record_len-within bs) in
+    record { some = omega arith; whole = (front bs some).0 ∙ sym long }
+
+-- ---- lists
+
+pub records_of-append : (fs gs : List (List ℕ)) → records_of (fs ++ gs) ≡ records_of fs ++ records_of gs
+records_of-append fs gs = map-append framed_record fs gs
+
+pub length-records_of : (fs : List (List ℕ)) → length (records_of fs) ≡ length fs
+length-records_of fs = length-map fs framed_record
+
+pub length-starts_of : (at : ℕ) (fs : List (List ℕ)) → length (starts_of at fs) ≡ length fs
+unfolding starts_of
+length-starts_of at [] = refl
+length-starts_of at (f ∷ fs) = ap suc (length-starts_of (at + length f) fs)
+
+pub starts_of-append : (at : ℕ) (fs gs : List (List ℕ)) → starts_of at (fs ++ gs) ≡ starts_of at fs ++ starts_of (at + length (joined fs)) gs
+unfolding starts_of
+starts_of-append at [] gs = ap (λ (n : ℕ). starts_of n gs) (omega arith)
+starts_of-append at (f ∷ fs) gs =
+    let place : (at + length f) + length (joined fs) ≡ at + length (f ++ joined fs) = omega (arith, length-append f (joined fs)) in
+    ap (λ (l : List ℕ). at ∷ l) (starts_of-append (at + length f) fs gs ∙ ap (λ (n : ℕ). starts_of (at + length f) fs ++ starts_of n gs) place)
+
+pub starts_of-one : (at : ℕ) (f : List ℕ) → starts_of at (f ∷ []) ≡ at ∷ []
+unfolding starts_of
+starts_of-one at f = refl
+
+joined-one : (fs : List (List ℕ)) (f : List ℕ) → joined (fs ++ f ∷ []) ≡ joined fs ++ f
+joined-one fs f = joined-append fs (f ∷ []) ∙ ap (λ (l : List ℕ). joined fs ++ l) (append-nil f)
+
+pub rise_one : (id : ℕ) (r : Record) → IsRecord r → r.id ≡ id → RiseByOne id (r ∷ [])
+unfolding RiseByOne
+rise_one id r is same = (is, same, tt)
+
+rise_first : (id : ℕ) (r : Record) (rs : List Record) → RiseByOne id (r ∷ rs) → r.id ≡ id
+unfolding RiseByOne
+rise_first id r rs rise = rise.1
+
+pub none_rise : (id : ℕ) → RiseByOne id []
+unfolding RiseByOne
+none_rise id = tt
+
+-- ---- one more
+
+-- no record yet
+pub index-none : (file first : ℕ) (bytes : List ℕ) → IsIndexOf (record { file = file; first = first; starts = []; end = 0 }) bytes
+unfolding starts_of
+index-none file first bytes = record { frames = []; rest = bytes; whole = tt; is = refl; starts = refl; end = refl; ids = none_rise first }
+
+-- what stands where the last frame ends
+pub index-rest : (s : Index) (all : List ℕ) (index : IsIndexOf s all) → drop s.end all ≡ index.rest
+index-rest s all index = ap (λ (l : List ℕ). drop s.end l) index.is ∙ drop_at (joined index.frames) index.rest s.end (sym index.end)
+
+pub index-count : (s : Index) (all : List ℕ) (index : IsIndexOf s all) → count_of s ≡ length index.frames
+index-count s all index = ap length index.starts ∙ length-starts_of 0 index.frames
+
+module _ (s : Index) (bytes more all : List ℕ) (at_end : drop s.end all ≡ bytes ++ more) (index : IsIndexOf s all) (some : 0 < record_len bytes) where
+  n : ℕ
+  n = record_len bytes
+
+  abbrev f : List ℕ
+  f = take (record_len bytes) bytes
+
+  here : index.rest ≡ f ++ (drop (record_len bytes) bytes ++ more)
+  here =
+      sym (index-rest s all index) ∙ at_end ∙ ap (λ (l : List ℕ). l ++ more) (sym (take-append-drop (record_len bytes) bytes))
+      ∙ append_assoc f (drop (record_len bytes) bytes) more
+
+  stands : record_len index.rest ≡ record_len bytes
+  stands =
+      let long : length f ≡ record_len bytes = length-take-le (record_len bytes) bytes (record_len-within bytes) in
+      ap record_len here ∙ (behind f (drop (record_len bytes) bytes ++ more) (first_frame bytes some)).0 ∙ long
+
+  says : framed_record index.rest ≡ framed_record bytes
+  says = ap framed_record here ∙ (behind f (drop (record_len bytes) bytes ++ more) (first_frame bytes some)).1 ∙ (front bytes some).1
+
+  pub index-more : IsBytes bytes → (framed_record bytes).id ≡ s.first + count_of s → IsIndexOf (record s { starts = s.starts ++ s.end ∷ []; end = s.end + record_len bytes }) all
+  index-more fits id =
+      let long : length f ≡ record_len bytes = length-take-le (record_len bytes) bytes (record_len-within bytes) in
+      let behind_it = drop (record_len bytes) bytes ++ more in
+      let one = joined-one index.frames f in
+      let is_next : (framed_record f).id ≡ s.first + length (records_of index.frames) = ap (λ (r : Record). r.id) (front bytes some).1 ∙ id ∙ ap (λ (k : ℕ). s.first + k) (index-count s all index ∙ sym (length-records_of index.frames)) in
+      let valid : IsRecord (framed_record f) = subst IsRecord (sym (front bytes some).1) (framed-spells bytes some fits).valid in
+      record {
+        frames = index.frames ++ f ∷ [];
+        rest = behind_it;
+        whole = all-append (IsFrame record_len) index.frames (f ∷ []) index.whole (first_frame bytes some, tt);
+        is = index.is ∙ ap (λ (l : List ℕ). joined index.frames ++ l) here ∙ sym (append_assoc (joined index.frames) f behind_it) ∙ ap (λ (l : List ℕ). l ++ behind_it) (sym one);
+        starts =
+            ap (λ (l : List ℕ). l ++ s.end ∷ []) index.starts ∙ ap (λ (k : ℕ). starts_of 0 index.frames ++ k ∷ []) index.end
+            ∙ ap (λ (l : List ℕ). starts_of 0 index.frames ++ l) (sym (starts_of-one (length (joined index.frames)) f)) ∙ sym (starts_of-append 0 index.frames (f ∷ []) ∙ ap (λ (k : ℕ). starts_of 0 index.frames ++ starts_of k (f ∷ [])) (omega arith));
+        end = omega (arith, index.end, long, ap length one, length-append (joined index.frames) f);
+        ids = subst (RiseByOne s.first) (sym (records_of-append index.frames (f ∷ []))) (RiseByOne-append s.first (records_of index.frames) (framed_record f ∷ []) index.ids (rise_one _ (framed_record f) valid is_next));
+      }
+
+  pub damaged-id : (count : ℕ) → (framed_record bytes).id ≢ s.first + count_of s → IsDamagedAt s.first count all s.end
+  damaged-id count other = record {
+    front = index.frames;
+    rest = index.rest;
+    whole = index.whole;
+    is = index.is;
+    ids = index.ids;
+    place = index.end;
+    wrong = inr (omega (arith, some, stands), λ same. other (sym (ap (λ (r : Record). r.id) says) ∙ same ∙ ap (λ (k : ℕ). s.first + k) (sym (index-count s all index))));
+  }
+
+-- ---- the record at a place
+
+all-take : {A : Type 0} (P : A → Type 0) (k : ℕ) (xs : List A) → AllByRecursion P xs → AllByRecursion P (take k xs)
+all-take P zero xs all = tt
+all-take P (suc k) [] all = tt
+all-take P (suc k) (x ∷ xs) all = (all.0, all-take P k xs all.1)
+
+all-drop : {A : Type 0} (P : A → Type 0) (k : ℕ) (xs : List A) → AllByRecursion P xs → AllByRecursion P (drop k xs)
+all-drop P zero xs all = all
+all-drop P (suc k) [] all = tt
+all-drop P (suc k) (x ∷ xs) all = all-drop P k xs all.1
+
+take-starts_of : (k at : ℕ) (fs : List (List ℕ)) → take k (starts_of at fs) ≡ starts_of at (take k fs)
+unfolding starts_of
+take-starts_of zero at fs = refl
+take-starts_of (suc k) at [] = refl
+take-starts_of (suc k) at (f ∷ fs) = ap (λ (l : List ℕ). at ∷ l) (take-starts_of k (at + length f) fs)
+
+get_or-starts_of : (k at : ℕ) (fs : List (List ℕ)) (d : ℕ) → k < length fs → get_or (starts_of at fs) k d ≡ at + length (joined (take k fs))
+unfolding starts_of
+get_or-starts_of k at [] d lt = absurd (omega arith)
+get_or-starts_of zero at (f ∷ fs) d lt = omega arith
+get_or-starts_of (suc k) at (f ∷ fs) d lt =
+    omega (arith, get_or-starts_of k (at + length f) fs d (omega arith), length-append f (joined (take k fs)))
+
+split_at : (k : ℕ) (fs : List (List ℕ)) → joined fs ≡ joined (take k fs) ++ joined (drop k fs)
+split_at k fs = ap joined (sym (take-append-drop k fs)) ∙ joined-append (take k fs) (drop k fs)
+
+-- the first records alone
+pub index-close : (s : Index) (all : List ℕ) (len end : ℕ) → len < count_of s → end ≡ get_or s.starts len end → IsIndexOf s all → IsIndexOf (record s { starts = take len s.starts; end = end }) all
+index-close s all len end lt end_is index =
+    let fs = index.frames in
+    let few : len < length fs = omega (arith, index-count s all index) in
+    let cut : records_of fs ≡ records_of (take len fs) ++ records_of (drop len fs) = ap records_of (sym (take-append-drop len fs)) ∙ records_of-append (take len fs) (drop len fs) in
+    record {
+      frames = take len fs;
+      rest = joined (drop len fs) ++ index.rest;
+      whole = all-take (IsFrame record_len) len fs index.whole;
+      is = index.is ∙ ap (λ (l : List ℕ). l ++ index.rest) (split_at len fs) ∙ append_assoc (joined (take len fs)) (joined (drop len fs)) index.rest;
+      starts = ap (λ (l : List ℕ). take len l) index.starts ∙ take-starts_of len 0 fs;
+      end = omega (arith, end_is, ap (λ (l : List ℕ). get_or l len end) index.starts, get_or-starts_of len 0 fs end few);
+      ids = RiseByOne-front s.first (records_of (take len fs)) (records_of (drop len fs)) (subst (RiseByOne s.first) cut index.ids);
+    }
+
+-- the frames of the file are those of the index, and perhaps more
+pub index-frames : (s : Index) (all : List ℕ) (index : IsIndexOf s all) → frames_in record_len all ≡ index.frames ++ frames_in record_len index.rest
+index-frames s all index =
+    let fs = index.frames in
+    let parts = split record_len framing index.rest in
+    let gs = frames_in record_len index.rest in
+    let whole : all ≡ joined (fs ++ gs) ++ parts.rest =
+    index.is ∙ ap (λ (l : List ℕ). joined fs ++ l) parts.is ∙ sym (append_assoc (joined fs) (joined gs) parts.rest) ∙ ap (λ (l : List ℕ). l ++ parts.rest) (sym (joined-append fs gs)) in
+    ap (frames_in record_len) whole ∙ frames_in-joined record_len framing (fs ++ gs) parts.rest (all-append (IsFrame record_len) fs gs index.whole parts.frames) parts.none
+
+-- the same places, first id and end make the same index
+pub index-as : (s t : Index) (bytes : List ℕ) → t.first ≡ s.first → t.starts ≡ s.starts → t.end ≡ s.end → IsIndexOf s bytes → IsIndexOf t bytes
+index-as s t bytes first starts end index = record {
+  frames = index.frames;
+  rest = index.rest;
+  whole = index.whole;
+  is = index.is;
+  starts = starts ∙ index.starts;
+  end = end ∙ index.end;
+  ids = subst (λ (n : ℕ). RiseByOne n (records_of index.frames)) (sym first) index.ids;
+}
+
+-- the same of a place that is refused
+pub damaged-as : (first first' count at at' : ℕ) (bytes : List ℕ) → first' ≡ first → at' ≡ at → IsDamagedAt first count bytes at → IsDamagedAt first' count bytes at'
+damaged-as first first' count at at' bytes same_first same_at is =
+    subst (λ (n : ℕ). IsDamagedAt n count bytes at') (sym same_first) (subst (λ (n : ℕ). IsDamagedAt first count bytes n) (sym same_at) is)
+
+-- ---- on through the bytes that were read
+
+-- what is left of them stands at the later place
+pub moved : (all bytes rest more : List ℕ) (old now : ℕ) → drop old all ≡ bytes ++ more → old ≤ now → now - old ≤ length bytes → rest ≡ drop (now - old) bytes → drop now all ≡ rest ++ more
+moved all bytes rest more old now at_end later used rest_is =
+    let there : old + (now - old) ≡ now = omega arith in
+    ap (λ (n : ℕ). drop n all) (sym there) ∙ sym (drop-drop (now - old) old all) ∙ ap (λ (l : List ℕ). drop (now - old) l) at_end
+    ∙ drop-append-le (now - old) bytes more used ∙ ap (λ (l : List ℕ). l ++ more) (sym rest_is)
+
+pub further : (bytes rest : List ℕ) (old now n : ℕ) → old ≤ now → rest ≡ drop (now - old) bytes → drop n rest ≡ drop ((now + n) - old) bytes
+further bytes rest old now n later rest_is =
+    let there : (now - old) + n ≡ (now + n) - old = omega arith in
+    ap (λ (l : List ℕ). drop n l) rest_is ∙ drop-drop n (now - old) bytes ∙ ap (λ (k : ℕ). drop k bytes) there
+
+-- ---- the record with an id
+
+get-all : {A : Type 0} (P : A → Type 0) (k : ℕ) (xs : List A) (d : A) → k < length xs → AllByRecursion P xs → P (get_or xs k d)
+get-all P k [] d lt all = absurd (omega arith)
+get-all P zero (x ∷ xs) d lt all = all.0
+get-all P (suc k) (x ∷ xs) d lt all = get-all P k xs d (omega arith) all.1
+
+-- a frame stands between two places of the file, and its record has its place there
+pub record IsPlaced (s : Index) (all : List ℕ) (k at end : ℕ) : Type 0 where
+  pub frame : List ℕ
+  pub more : List ℕ
+  pub is : drop at all ≡ frame ++ more
+  pub whole : IsFrame record_len frame
+  pub long : at + length frame ≡ end
+  pub within : end ≤ length all
+  pub id : (framed_record frame).id ≡ s.first + k
+  pub found : slice_get (records_in all) k ≡ Some (framed_record frame)
+
+module _ (s : Index) (all : List ℕ) (index : IsIndexOf s all) (k : ℕ) (lt : k < count_of s) where
+  abbrev fs : List (List ℕ)
+  fs = index.frames
+
+  few : k < length fs
+  few = omega (arith, lt, index-count s all index)
+
+  abbrev frame : List ℕ
+  frame = get_or fs k []
+
+  behind_it : List ℕ
+  behind_it = joined (drop (suc k) fs) ++ index.rest
+
+  parts : all ≡ joined (take k fs) ++ (frame ++ (joined (drop (suc k) fs) ++ index.rest))
+  parts =
+      index.is ∙ ap (λ (l : List ℕ). l ++ index.rest) (split_at k fs) ∙ append_assoc (joined (take k fs)) (joined (drop k fs)) index.rest
+      ∙ ap (λ (gs : List (List ℕ)). joined (take k fs) ++ (joined gs ++ index.rest)) (drop-cons fs k [] few)
+      ∙ ap (λ (l : List ℕ). joined (take k fs) ++ l) (append_assoc frame (joined (drop (suc k) fs)) index.rest)
+
+  begins : get_or s.starts k 0 ≡ length (joined (take k fs))
+  begins = ap (λ (l : List ℕ). get_or l k 0) index.starts ∙ get_or-starts_of k 0 fs 0 few ∙ omega arith
+
+  next_front : length (joined (take (suc k) fs)) ≡ length (joined (take k fs)) + length frame
+  next_front = ap (λ (gs : List (List ℕ)). length (joined gs)) (take-suc fs k [] few) ∙ ap length (joined-one (take k fs) frame) ∙ length-append (joined (take k fs)) frame
+
+  ends : get_or s.starts (k + 1) s.end ≡ length (joined (take (suc k) fs))
+  ends =
+      let one : k + 1 ≡ suc k = omega arith in
+      ap (λ (n : ℕ). get_or s.starts n s.end) one ∙ elim (cases_lt (suc k) (length fs)) [
+        | inl inner ↦ ap (λ (l : List ℕ). get_or l (suc k) s.end) index.starts ∙ get_or-starts_of (suc k) 0 fs s.end inner ∙ omega arith
+        | inr last ↦ get_or_past s.starts (suc k) s.end (omega (arith, index-count s all index, last)) ∙ index.end ∙ ap (λ (gs : List (List ℕ)). length (joined gs)) (sym (take_all (suc k) fs last))
+      ]
+
+  its_record : get_or (records_of fs) k (framed_record []) ≡ framed_record frame
+  its_record = get_or-map framed_record fs k [] (framed_record []) few
+
+  pub placed : IsPlaced s all k (get_or s.starts k 0) (get_or s.starts (k + 1) s.end)
+  placed =
+      let rs = records_of fs in
+      let rest = records_of (frames_in record_len index.rest) in
+      let in_records : k < length rs = omega (arith, few, length-records_of fs) in
+      let same : records_in all ≡ rs ++ rest = ap records_of (index-frames s all index) ∙ records_of-append fs (frames_in record_len index.rest) in
+      let longer : length (records_in all) ≡ length rs + length rest = ap length same ∙ length-append rs rest in
+      let size : length all ≡ length (joined (take k fs)) + (length frame + length (joined (drop (suc k) fs) ++ index.rest)) =
+      ap length parts ∙ length-append (joined (take k fs)) (frame ++ (joined (drop (suc k) fs) ++ index.rest)) ∙ ap (λ (n : ℕ). length (joined (take k fs)) + n) (length-append frame (joined (drop (suc k) fs) ++ index.rest)) in
+      record {
+        frame = frame;
+        more = joined (drop (suc k) fs) ++ index.rest;
+        is = ap (λ (n : ℕ). drop n all) begins ∙ ap (λ (l : List ℕ). drop (length (joined (take k fs))) l) parts ∙ drop_at (joined (take k fs)) (frame ++ (joined (drop (suc k) fs) ++ index.rest)) (length (joined (take k fs))) refl;
+        whole = get-all (IsFrame record_len) k fs [] few index.whole;
+        long = omega (arith, begins, ends, next_front);
+        within = omega (arith, ends, next_front, size);
+        id = ap (λ (r : Record). r.id) (sym its_record) ∙ RiseByOne-id s.first rs k (framed_record []) index.ids in_records;
+        found =
+            slice_get-get_or (records_in all) k (framed_record []) (omega (arith, longer, in_records))
+            ∙ ap (λ (r : Record). Some r) (ap (λ (l : List Record). get_or l k (framed_record [])) same ∙ get_or-append rs rest (framed_record []) k in_records ∙ its_record);
+      }

@@ -1,0 +1,9 @@
+pub mod Pieces
+pub mod Indexing
+pub mod Answers
+pub mod Stretches
+pub mod Loaded
+pub mod Encoded
+pub mod Appended
+pub mod Got
+pub mod Staged

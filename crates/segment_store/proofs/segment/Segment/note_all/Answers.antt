@@ -1,0 +1,28 @@
+use Rattle.std.proofs.Common.{◌≡◌, ◌+◌, ◌-◌, ℕ, drop, sym, ◌∙◌, ap, arith}
+use Rattle.segment_store.proofs.Indexing.{moved, further, damaged-as}
+use Rattle.segment_store.proofs.Answers.{told_by_try}
+use Rattle.segment_store.proofs.segment.Segment.note_all.Goals as goal
+
+pub returns-in_err-note-in-Ok-clause-damaged : goal.returns-in_err-note-in-Ok-clause-damaged
+returns-in_err-note-in-Ok-clause-damaged c =
+    let inv = c.frames.invariant in
+    told_by_try c.from_residual.result c.in_err-note-in-Ok.field-0.0 _ _ c.from_residual.ensures.1 c.in_err-note-in-Ok.ensures.damaged (λ file at is. (
+      is.0 ∙ inv.file,
+      λ all more count at_end index.
+          damaged-as c.frames.self.first c.args.self.now.first count at at all (sym inv.first) (λ i. at)
+          (is.1 all more count (moved all c.args.bytes.now c.frames.rest.now more c.args.self.now.end c.frames.self.end at_end inv.later (omega (arith, inv.used, inv.later)) inv.rest) (inv.index all more at_end index)),
+    ))
+
+pub frames-preserved : goal.frames-preserved
+frames-preserved c =
+    let len_is : c.note.new.self.end ≡ c.frames.self.end + c.in-Ok.len = c.in_ok-note-in-Ok.ensures.end in
+    let inv = c.frames.invariant in
+    record {
+      file = c.note.ensures.place.0 ∙ inv.file;
+      first = c.note.ensures.place.1 ∙ inv.first;
+      later = omega (arith, inv.later);
+      used = omega (arith, inv.used, c.split_at.ensures.back_len);
+      rest = c.split_at.ensures.back ∙ further c.args.bytes.now c.frames.rest.now c.args.self.now.end c.frames.self.end c.in-Ok.len inv.later inv.rest ∙ ap (λ (n : ℕ). drop (n - c.args.self.now.end) c.args.bytes.now) (sym len_is);
+      index = λ all more at_end index.
+          c.in_ok-note-in-Ok.ensures.index all more (moved all c.args.bytes.now c.frames.rest.now more c.args.self.now.end c.frames.self.end at_end inv.later (omega (arith, inv.used, inv.later)) inv.rest) (inv.index all more at_end index);
+    }

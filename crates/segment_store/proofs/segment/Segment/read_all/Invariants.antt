@@ -1,0 +1,18 @@
+use Rattle.std.proofs.Common.{◌≡◌, ◌≤◌, ◌-◌}
+use Rattle.disk_model.specs.History.{KeepsWorking}
+use Rattle.segment_store.specs.Loading.{IsAligned, IsReadOf}
+use Rattle.segment_store.proofs.segment.Segment.read_all.Given as goal
+
+abbrev pub invariant-pieces : goal.invariant-pieces
+invariant-pieces g l = record {
+  file : l.self.file ≡ l.fn.self.file;
+  first : l.self.first ≡ l.fn.self.first;
+  aligned : IsAligned l.self l.stretch;
+  read : g.D.Disk.tells → IsReadOf l.self l.stretch ((g.D.Disk.history l.fn.disk).now l.fn.self.file).reads;
+  history : g.D.Disk.tells → g.D.Disk.history l.disk ≡ g.D.Disk.history l.fn.disk;
+  later : g.D.Disk.faults l.fn.disk ≤ g.D.Disk.faults l.disk;
+  keeps : KeepsWorking g.D.Disk.reliable g.D.Disk.unfailing l.fn.disk l.disk ⊥;
+}
+
+abbrev pub decreases-pieces : goal.decreases-pieces
+decreases-pieces g l = l.stretch.end - l.stretch.next

@@ -1,0 +1,102 @@
+use Rattle.std.proofs.Common.{◌≡◌, ℕ, sym, ap, subst}
+use Rattle.record_frame.specs.Framing.{record_len}
+use Rattle.disk_model.specs.File.{IsPlain}
+use Rattle.disk_model.specs.Frames.{joined, frames_in}
+use Rattle.disk_model.specs.History.{EachMoment}
+use Rattle.segment_store.specs.Records.{records_in, EachImageHolds}
+use Rattle.segment_store.specs.Index.{Index, IsWholeIndexOf, IsTidy}
+use Rattle.segment_store.proofs.Loaded.{plain_reads, load_cuts, load_syncs, load_cut, load_records, load_tidy}
+use Rattle.segment_store.proofs.segment.Segment.trim.Goals as goal
+
+pub returns-in_err-cut-clause-any_moment : goal.returns-in_err-cut-clause-any_moment
+returns-in_err-cut-clause-any_moment g c = λ t start.
+    let s = c.args.self.now in
+    let old = g.D.Disk.history c.args.disk.now in
+    let q = c.self.inside.file in
+    let same : q ≡ s.file = ap (λ (i : Index). i.file) c.self.view_is in
+    let end : c.self.inside.end ≡ s.end = ap (λ (i : Index). i.end) c.self.view_is in
+    let whole : IsWholeIndexOf s (old.now q).reads = subst (λ (n : ℕ). IsWholeIndexOf s (old.now n).reads) (sym same) (c.requires t) in
+    subst (λ (n : ℕ). EachMoment n (EachImageHolds (λ rs. rs ≡ records_in (old.now n).reads)) old (g.D.Disk.history c.cut.new.self)) same (load_cuts q s c.self.inside.end end old whole old (g.D.Disk.history c.cut.new.self) (λ i. old) (c.cut.ensures.moments t) (subst (λ (n : ℕ). IsPlain (old.now n)) (sym same) start))
+
+pub returns-in_err-cut-clause-plain : goal.returns-in_err-cut-clause-plain
+returns-in_err-cut-clause-plain g c = λ t p.
+    let s = c.args.self.now in
+    let old = g.D.Disk.history c.args.disk.now in
+    let q = c.self.inside.file in
+    let same : q ≡ s.file = ap (λ (i : Index). i.file) c.self.view_is in
+    let end : c.self.inside.end ≡ s.end = ap (λ (i : Index). i.end) c.self.view_is in
+    let whole : IsWholeIndexOf s (old.now q).reads = subst (λ (n : ℕ). IsWholeIndexOf s (old.now n).reads) (sym same) (c.requires t) in
+    subst (λ (n : ℕ). EachMoment n (λ f. records_in f.reads ≡ records_in (old.now n).reads) old (g.D.Disk.history c.cut.new.self)) same
+    (plain_reads q (λ rs. rs ≡ records_in (old.now q).reads) old (g.D.Disk.history c.cut.new.self) (load_cuts q s c.self.inside.end end old whole old (g.D.Disk.history c.cut.new.self) (λ i. old) (c.cut.ensures.moments t) ((g.met.D.Disk.settles c.args.disk.now t p).0 q)) (g.met.D.Disk.settles c.cut.new.self t p))
+
+pub returns-in_err-sync-clause-any_moment : goal.returns-in_err-sync-clause-any_moment
+returns-in_err-sync-clause-any_moment g c = λ t start.
+    let s = c.args.self.now in
+    let old = g.D.Disk.history c.args.disk.now in
+    let q = c.self.inside.file in
+    let same : q ≡ s.file = ap (λ (i : Index). i.file) c.self.view_is in
+    let end : c.self.inside.end ≡ s.end = ap (λ (i : Index). i.end) c.self.view_is in
+    let whole : IsWholeIndexOf s (old.now q).reads = subst (λ (n : ℕ). IsWholeIndexOf s (old.now n).reads) (sym same) (c.requires t) in
+    subst (λ (n : ℕ). EachMoment n (EachImageHolds (λ rs. rs ≡ records_in (old.now n).reads)) old (g.D.Disk.history c.sync.new.self)) same (load_syncs q s c.self.inside.end end old whole old (g.D.Disk.history c.cut.new.self) (g.D.Disk.history c.sync.new.self) (λ i. old) (c.cut.ensures.moments t) (c.in_ok-cut.ensures.reads t) (c.sync.ensures.moments t) (subst (λ (n : ℕ). IsPlain (old.now n)) (sym same) start))
+
+pub returns-in_err-sync-clause-plain : goal.returns-in_err-sync-clause-plain
+returns-in_err-sync-clause-plain g c = λ t p.
+    let s = c.args.self.now in
+    let old = g.D.Disk.history c.args.disk.now in
+    let q = c.self.inside.file in
+    let same : q ≡ s.file = ap (λ (i : Index). i.file) c.self.view_is in
+    let end : c.self.inside.end ≡ s.end = ap (λ (i : Index). i.end) c.self.view_is in
+    let whole : IsWholeIndexOf s (old.now q).reads = subst (λ (n : ℕ). IsWholeIndexOf s (old.now n).reads) (sym same) (c.requires t) in
+    subst (λ (n : ℕ). EachMoment n (λ f. records_in f.reads ≡ records_in (old.now n).reads) old (g.D.Disk.history c.sync.new.self)) same
+    (plain_reads q (λ rs. rs ≡ records_in (old.now q).reads) old (g.D.Disk.history c.sync.new.self) (load_syncs q s c.self.inside.end end old whole old (g.D.Disk.history c.cut.new.self) (g.D.Disk.history c.sync.new.self) (λ i. old) (c.cut.ensures.moments t) (c.in_ok-cut.ensures.reads t) (c.sync.ensures.moments t) ((g.met.D.Disk.settles c.args.disk.now t p).0 q)) (g.met.D.Disk.settles c.sync.new.self t p))
+
+pub returns-clause-any_moment : goal.returns-clause-any_moment
+returns-clause-any_moment g c = λ t start.
+    let s = c.args.self.now in
+    let old = g.D.Disk.history c.args.disk.now in
+    let q = c.self.inside.file in
+    let same : q ≡ s.file = ap (λ (i : Index). i.file) c.self.view_is in
+    let end : c.self.inside.end ≡ s.end = ap (λ (i : Index). i.end) c.self.view_is in
+    let whole : IsWholeIndexOf s (old.now q).reads = subst (λ (n : ℕ). IsWholeIndexOf s (old.now n).reads) (sym same) (c.requires t) in
+    subst (λ (n : ℕ). EachMoment n (EachImageHolds (λ rs. rs ≡ records_in (old.now n).reads)) old (g.D.Disk.history c.sync.new.self)) same (load_syncs q s c.self.inside.end end old whole old (g.D.Disk.history c.cut.new.self) (g.D.Disk.history c.sync.new.self) (λ i. old) (c.cut.ensures.moments t) (c.in_ok-cut.ensures.reads t) (c.sync.ensures.moments t) (subst (λ (n : ℕ). IsPlain (old.now n)) (sym same) start))
+
+pub returns-clause-plain : goal.returns-clause-plain
+returns-clause-plain g c = λ t p.
+    let s = c.args.self.now in
+    let old = g.D.Disk.history c.args.disk.now in
+    let q = c.self.inside.file in
+    let same : q ≡ s.file = ap (λ (i : Index). i.file) c.self.view_is in
+    let end : c.self.inside.end ≡ s.end = ap (λ (i : Index). i.end) c.self.view_is in
+    let whole : IsWholeIndexOf s (old.now q).reads = subst (λ (n : ℕ). IsWholeIndexOf s (old.now n).reads) (sym same) (c.requires t) in
+    subst (λ (n : ℕ). EachMoment n (λ f. records_in f.reads ≡ records_in (old.now n).reads) old (g.D.Disk.history c.sync.new.self)) same
+    (plain_reads q (λ rs. rs ≡ records_in (old.now q).reads) old (g.D.Disk.history c.sync.new.self) (load_syncs q s c.self.inside.end end old whole old (g.D.Disk.history c.cut.new.self) (g.D.Disk.history c.sync.new.self) (λ i. old) (c.cut.ensures.moments t) (c.in_ok-cut.ensures.reads t) (c.sync.ensures.moments t) ((g.met.D.Disk.settles c.args.disk.now t p).0 q)) (g.met.D.Disk.settles c.sync.new.self t p))
+
+pub returns-clause-tidy : goal.returns-clause-tidy
+returns-clause-tidy g c = λ t.
+    let s = c.args.self.now in
+    let old = g.D.Disk.history c.args.disk.now in
+    let q = c.self.inside.file in
+    let same : q ≡ s.file = ap (λ (i : Index). i.file) c.self.view_is in
+    let end : c.self.inside.end ≡ s.end = ap (λ (i : Index). i.end) c.self.view_is in
+    let whole : IsWholeIndexOf s (old.now q).reads = subst (λ (n : ℕ). IsWholeIndexOf s (old.now n).reads) (sym same) (c.requires t) in
+    subst (λ (n : ℕ). IsTidy s ((g.D.Disk.history c.sync.new.self).now n)) same (load_tidy q s c.self.inside.end end old whole old (g.D.Disk.history c.cut.new.self) (g.D.Disk.history c.sync.new.self) (λ i. old) (c.in_ok-cut.ensures.reads t) (c.in_ok-sync.ensures.synced t))
+
+pub returns-clause-cut : goal.returns-clause-cut
+returns-clause-cut g c = λ t.
+    let s = c.args.self.now in
+    let old = g.D.Disk.history c.args.disk.now in
+    let q = c.self.inside.file in
+    let same : q ≡ s.file = ap (λ (i : Index). i.file) c.self.view_is in
+    let end : c.self.inside.end ≡ s.end = ap (λ (i : Index). i.end) c.self.view_is in
+    let whole : IsWholeIndexOf s (old.now q).reads = subst (λ (n : ℕ). IsWholeIndexOf s (old.now n).reads) (sym same) (c.requires t) in
+    subst (λ (n : ℕ). ((g.D.Disk.history c.sync.new.self).now n).reads ≡ joined (frames_in record_len (old.now n).reads)) same (load_cut q s c.self.inside.end end old whole old (g.D.Disk.history c.cut.new.self) (g.D.Disk.history c.sync.new.self) (λ i. old) (c.in_ok-cut.ensures.reads t) (c.in_ok-sync.ensures.synced t))
+
+pub returns-clause-records : goal.returns-clause-records
+returns-clause-records g c = λ t.
+    let s = c.args.self.now in
+    let old = g.D.Disk.history c.args.disk.now in
+    let q = c.self.inside.file in
+    let same : q ≡ s.file = ap (λ (i : Index). i.file) c.self.view_is in
+    let end : c.self.inside.end ≡ s.end = ap (λ (i : Index). i.end) c.self.view_is in
+    let whole : IsWholeIndexOf s (old.now q).reads = subst (λ (n : ℕ). IsWholeIndexOf s (old.now n).reads) (sym same) (c.requires t) in
+    subst (λ (n : ℕ). records_in ((g.D.Disk.history c.sync.new.self).now n).reads ≡ records_in (old.now n).reads) same (load_records q s c.self.inside.end end old whole old (g.D.Disk.history c.cut.new.self) (g.D.Disk.history c.sync.new.self) (λ i. old) (c.in_ok-cut.ensures.reads t) (c.in_ok-sync.ensures.synced t))

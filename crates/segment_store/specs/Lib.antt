@@ -1,0 +1,4 @@
+pub mod Records
+pub mod Index
+pub mod Faults
+pub mod Loading
