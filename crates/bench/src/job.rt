@@ -5,6 +5,8 @@ pub enum Job {
     Decode(u64),
     Digest(u64),
     Segment(u64),
+    Get(u64),
+    GetRun(u64),
 }
 
 /// The job that the words name.
@@ -12,6 +14,8 @@ pub fn job_of(words: &[String]) -> Option<Job> {
     match words {
         [word, times] if word.as_str() == "digest" => Some(Job::Digest(times.parse().ok()?)),
         [word, count] if word.as_str() == "segment" => Some(Job::Segment(count.parse().ok()?)),
+        [word, times] if word.as_str() == "get" => Some(Job::Get(times.parse().ok()?)),
+        [word, times] if word.as_str() == "run" => Some(Job::GetRun(times.parse().ok()?)),
         [frames, work, times] if frames.as_str() == "frames" => {
             let times = times.parse().ok()?;
             match work.as_str() {

@@ -16,11 +16,11 @@ pub struct Tally {
 }
 
 impl Tally {
-    fn new() -> Tally {
+    pub fn new() -> Tally {
         Tally { bytes: 0, sum: 0 }
     }
 
-    fn add(&mut self, len: usize, value: u64) {
+    pub fn add(&mut self, len: usize, value: u64) {
         self.bytes = self.bytes.wrapping_add(len as u64);
         self.sum = self.sum.wrapping_add(value);
     }
@@ -38,7 +38,7 @@ pub fn example(alloc: Global, id: u64) -> io::Result<Record>
     reads.push(Lock::of_name(alloc, b"account1")?)?;
     writes.push(Lock::of_name(alloc, b"account2")?)?;
     let payload = vec![in alloc; b'x'; 100]?;
-    let Ok(tx) = Tx::new(1, id, 0, reads, writes, payload) else {
+    let Ok(tx) = Tx::new(alloc, 1, id, 0, reads, writes, payload) else {
         return Err(ErrorKind::InvalidInput.into());
     };
     let _payload = tx.payload();

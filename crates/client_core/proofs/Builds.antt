@@ -1,16 +1,22 @@
 -- What a client builds, and the keys that its ops name.
-use Rattle.std.proofs.Common.{◌≡◌, ℕ, Bool, true, false, cond, not, bytes_eq, List, [], ◌∷◌, Contains, find, IsPermutation, Some, None, refl, sym, ap, subst, ◌∙◌, inl, inr}
-use Rattle.std.specs.List.{list_any}
+use Rattle.std.proofs.Common.{◌≡◌, ℕ, Bool, true, false, cond, not, bytes_eq, ◌&&◌, T, List, [], ◌∷◌, map, Contains, find, Option, Some, None, refl, sym, ap, subst, ◌∙◌, inl, inr}
+use Rattle.std.specs.List.{AllByRecursion, list_any}
+use Rattle.std.specs.FinMap as finite
+use Rattle.std.specs.FinMap.{entries_sorted}
+use Rattle.std.specs.FinMap.Entries.{is_sorted, below_all}
+use Rattle.std.specs.declared.cmp.Ordering.{Ordering}
+use Rattle.std.specs.declared.cmp.Ordering.TheVariants.{Less, Equal, Greater}
+use Rattle.std.specs.Ordering.{is_lt}
 use Rattle.std.specs.List.Sorted.{IsStrictlySortedBy}
-use Rattle.std.proofs.lemmas.List.Sorted.{IsPermutation-sym, Contains-permutation}
 use Rattle.tx_model.specs.declared.op.Op.{Op}
-use Rattle.tx_model.specs.Transactions.{Transaction, Says, is_before}
-use Rattle.tx_model.specs.Applications.{name_cmp, ops_of}
-use Rattle.tx_model.proofs.Names.{list_any-is_among, Contains-from_is_among, is_among-from_Contains}
+use Rattle.tx_model.specs.Transactions.{Transaction, Says, is_before, is_among}
+use Rattle.tx_model.specs.Applications.{name_cmp, ops_of, op_key, key_set, SpellsOps}
+use Rattle.tx_model.proofs.Names.{Contains-from_is_among, is_among-from_Contains, list_any-is_among}
 use Rattle.kv_app.specs.Touches.{touched_keys}
-use Rattle.proto_model.specs.Clients.{in_order}
-use Rattle.client_core.specs.Building.{keys_of, named_keys, IsLeastUnlocked}
-use Rattle.client_core.proofs.Orders.{in_order_is, none_in_none, here, later, where_in, less_in, not_before, not_before_same}
+use Rattle.kv_app.proofs.WordTexts.{ops_of-SpellsOps}
+use Rattle.client_core.specs.Clients.{in_order}
+use Rattle.client_core.specs.Building.{keys_of, named_keys, IsLeastUnlocked, unlocked_key}
+use Rattle.client_core.proofs.Orders.{in_order_is, here, later, where_in, less_in, not_before, not_before_same}
 
 -- what says this is this transaction
 pub built_is : (tx : Transaction) (client request mark : ℕ) (reads writes : List (List ℕ)) (ops : List ℕ) → Says tx client request mark reads writes ops → tx ≡ record { client = client; request = request; mark = mark; reads = in_order reads; writes = in_order writes; payload = ops }
@@ -22,13 +28,13 @@ built_is tx client request mark reads writes ops says =
 -- ---- the first key that is no write lock
 
 abbrev pub is_free : List (List ℕ) → List ℕ → Bool
-is_free writes key = not (list_any (λ write. bytes_eq write key) writes)
+is_free writes key = not (is_among key writes)
 
 not_in : (writes : List (List ℕ)) (key : List ℕ) → is_free writes key ≡ true → ¬ Contains writes key
-not_in writes key free is = cc (free, list_any-is_among key writes, is_among-from_Contains key writes is)
+not_in writes key free is = cc (free, is_among-from_Contains key writes is)
 
 is_in : (writes : List (List ℕ)) (key : List ℕ) → is_free writes key ≡ false → Contains writes key
-is_in writes key held = Contains-from_is_among key writes (sym (list_any-is_among key writes) ∙ flipped (list_any (λ write. bytes_eq write key) writes) held)
+is_in writes key held = Contains-from_is_among key writes (flipped (is_among key writes) held)
   where
     flipped : (b : Bool) → not b ≡ false → b ≡ true
     flipped true h = refl
@@ -64,32 +70,46 @@ find_is_least writes (k ∷ keys) key rise found =
       | false ↦ λ held rest. later_is_least writes keys k key held (find_is_least writes keys key rise.1 rest)
     ] refl found
 
-none_is_free : (writes keys : List (List ℕ)) → find (is_free writes) keys ≡ None → (key : List ℕ) → Contains keys key → Contains writes key
-none_is_free writes [] none key is = absurd (none_in_none key is)
-none_is_free writes (k ∷ keys) none key is =
-    elim (is_free writes k) as (λ b. is_free writes k ≡ b → cond b (Some k) (find (is_free writes) keys) ≡ None → Contains writes key) [
-      | true ↦ λ free first. absurd cc
-      | false ↦ λ held rest. elim (where_in k key keys is) [
-        | inl same ↦ subst (λ x. Contains writes x) same (is_in writes k held)
-        | inr among ↦ none_is_free writes keys rest key among
-      ]
-    ] refl none
+-- ---- the keys of a payload
 
--- ---- the same of the write locks as they were handed in
+rises : (es : List (List ℕ × Unit {0})) → T (is_sorted name_cmp es) → IsStrictlySortedBy name_cmp (map (λ (e : List ℕ × Unit {0}). e.0) es)
+unfolding IsStrictlySortedBy
+rises [] sorted = tt
+rises (e ∷ es) sorted = (all_below e.0 es (first_true _ _ sorted), rises es (second_true _ _ sorted))
+  where
+    first_true : (a b : Bool) → T (a && b) → T a
+    first_true true b h = tt
+    first_true false b h = h
 
-named_keys_are : (payload : List ℕ) (ops : List Op) (keys : List (List ℕ)) → ops_of payload ≡ Some ops → keys ≡ touched_keys ops → keys ≡ named_keys payload
-named_keys_are payload ops keys read is = is ∙ sym (ap keys_of read)
+    second_true : (a b : Bool) → T (a && b) → T b
+    second_true true b h = h
+    second_true false b h = absurd h
 
-pub least_unlocked : (payload : List ℕ) (ops : List Op) (writes locks keys : List (List ℕ)) (key : List ℕ) → ops_of payload ≡ Some ops → keys ≡ touched_keys ops → IsPermutation writes locks → IsStrictlySortedBy name_cmp keys → find (is_free locks) keys ≡ Some key → IsLeastUnlocked writes (named_keys payload) key
-least_unlocked payload ops writes locks keys key read is moved rise found =
-    let least = find_is_least locks keys key rise found in
-    subst (λ ks. IsLeastUnlocked writes ks key) (named_keys_are payload ops keys read is) (record {
-      named = least.named;
-      unlocked = λ held. least.unlocked (Contains-permutation writes locks key moved held);
-      least = λ other among out. least.least other among (λ held. out (Contains-permutation locks writes other (IsPermutation-sym writes locks moved) held));
-    })
+    less_of : (o : Ordering) → T (is_lt o) → o ≡ Less
+    less_of Less h = refl
+    less_of Equal h = absurd h
+    less_of Greater h = absurd h
 
-pub all_locked : (payload : List ℕ) (ops : List Op) (writes locks keys : List (List ℕ)) → ops_of payload ≡ Some ops → keys ≡ touched_keys ops → IsPermutation writes locks → find (is_free locks) keys ≡ None → (key : List ℕ) → Contains (named_keys payload) key → Contains writes key
-all_locked payload ops writes locks keys read is moved none =
-    subst (λ ks. (key : List ℕ) → Contains ks key → Contains writes key) (named_keys_are payload ops keys read is)
-    (λ key among. Contains-permutation locks writes key (IsPermutation-sym writes locks moved) (none_is_free locks keys none key among))
+    all_below : (k : List ℕ) (es : List (List ℕ × Unit {0})) → T (below_all name_cmp k es) → AllByRecursion (λ y. name_cmp k y ≡ Less) (map (λ (e : List ℕ × Unit {0}). e.0) es)
+    all_below k [] h = tt
+    all_below k (e ∷ es) h = (less_of _ (first_true _ _ h), all_below k es (second_true _ _ h))
+
+named_keys_rise : (payload : List ℕ) → IsStrictlySortedBy name_cmp (named_keys payload)
+unfolding IsStrictlySortedBy
+named_keys_rise payload = go (ops_of payload)
+  where
+    go : (ops : Option (List Op)) → IsStrictlySortedBy name_cmp (keys_of ops)
+    go None = tt
+    go (Some ops) = rises (finite.entries (key_set (map op_key ops))) (entries_sorted (key_set (map op_key ops)))
+
+pub unlocked_is_least : (writes : List (List ℕ)) (payload key : List ℕ) → unlocked_key writes payload ≡ Some key → IsLeastUnlocked writes (named_keys payload) key
+unlocked_is_least writes payload key found = find_is_least writes (named_keys payload) key (named_keys_rise payload) found
+
+find_same : (f g : List ℕ → Bool) (keys : List (List ℕ)) → ((key : List ℕ) → f key ≡ g key) → find f keys ≡ find g keys
+find_same f g [] same = refl
+find_same f g (k ∷ keys) same = ap (λ b. cond b (Some k) (find f keys)) (same k) ∙ ap (cond (g k) (Some k)) (find_same f g keys same)
+
+-- the keys of a payload are those of its ops
+pub key_found : (writes : List (List ℕ)) (payload : List ℕ) (ops : List Op) (keys : List (List ℕ)) (key : Option (List ℕ)) → SpellsOps payload ops → keys ≡ touched_keys ops → key ≡ find (λ key. not (list_any (λ write. bytes_eq write key) writes)) keys → key ≡ unlocked_key writes payload
+key_found writes payload ops keys key spells are is =
+    is ∙ (find_same (λ key. not (list_any (λ write. bytes_eq write key) writes)) (is_free writes) keys (λ key. ap not (list_any-is_among key writes)) ∙ ap (find (is_free writes)) (are ∙ sym (ap keys_of (ops_of-SpellsOps payload ops spells))))

@@ -1,3 +1,6 @@
 pub mod Orders
 pub mod Builds
 pub mod Refusals
+pub mod Covered
+pub mod Doubles
+pub mod Told

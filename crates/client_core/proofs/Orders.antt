@@ -12,7 +12,7 @@ use Rattle.std.proofs.lemmas.List.Sorted.{IsPermutation-refl, IsPermutation-cons
 use Rattle.tx_model.specs.Transactions.{AreLocks, is_before}
 use Rattle.tx_model.specs.Applications.{name_cmp}
 use Rattle.tx_model.proofs.Names.{IsStrictlySortedBy-RiseFrom}
-use Rattle.proto_model.specs.Clients.{with_name, in_order}
+use Rattle.client_core.specs.Clients.{with_name, in_order}
 
 -- ---- two names
 

@@ -1,6 +1,5 @@
 -- A draft has one refusal at most, and a draft that passes all tests has none.
-use Rattle.std.proofs.Common.{◌≡◌, ℕ, ◌+◌, ◌≤◌, ◌<◌, List, length, Result, Err, refl, ap, ◌⊎◌, inl, inr, arith}
-use Rattle.tx_model.specs.Transactions.{Transaction}
+use Rattle.std.proofs.Common.{◌≡◌, ℕ, ◌+◌, ◌≤◌, ◌<◌, List, length, refl, ap, arith}
 use Rattle.kv_app.specs.Places.{IsBadAt}
 use Rattle.proto_model.specs.declared.refusal.BuildFault.{BuildFault}
 use Rattle.proto_model.specs.declared.refusal.BuildFault.TheVariants.{BadOps, TooManyLocks, DoubleLock, PayloadTooLong, Unlocked, LastRequest, Memory}
@@ -89,7 +88,7 @@ only_last d (Unlocked other) h k = absurd (no_locks d other k.1 h.0)
 only_last d LastRequest h k = refl
 only_last d Memory h k = absurd k
 
-one_refusal : (d : Draft) (fault g : BuildFault) → IsRefusal d fault → IsRefusal d g → fault ≡ g
+pub one_refusal : (d : Draft) (fault g : BuildFault) → IsRefusal d fault → IsRefusal d g → fault ≡ g
 one_refusal d (BadOps at) g h k = only_bad_ops d at g h k
 one_refusal d TooManyLocks g h k = only_many d g h k
 one_refusal d DoubleLock g h k = only_double d g h k
@@ -98,12 +97,7 @@ one_refusal d (Unlocked key) g h k = only_unlocked d key g h k
 one_refusal d LastRequest g h k = only_last d g h k
 one_refusal d Memory g h k = absurd h
 
--- ---- what is told
-
--- an answer that has a cause is the refusal of the draft
-pub told_err : (d : Draft) (fault : BuildFault) → (fault ≡ Memory) ⊎ IsRefusal d fault → (g : BuildFault) → IsRefusal d g → ◌≡◌ {A = Result Transaction BuildFault} (Err fault) (Err g) ⊎ ◌≡◌ {A = Result Transaction BuildFault} (Err fault) (Err Memory)
-told_err d fault (inl memory) g is = inr (ap Err memory)
-told_err d fault (inr cause) g is = inl (ap Err (one_refusal d fault g cause is))
+-- ---- what is built
 
 pub buildable_not : (d : Draft) (g : BuildFault) → IsBuildable d → IsRefusal d g → ⊥
 buildable_not d (BadOps at) b is = no_ops d at is b.locked.payload.names.locks.ops

@@ -1,12 +1,55 @@
 -- What a client refuses to build. Of the refusals that fit, the first is given.
-use Rattle.std.specs.Prelude.{◌≡◌, ◌≢◌, ℕ, ◌+◌, ◌-◌, ◌≤◌, ◌<◌, ◌^◌, false, List, [], ◌++◌, length, Contains, Option, Some, None}
+use Rattle.std.specs.Prelude.{◌≡◌, ◌≢◌, ℕ, ◌+◌, ◌-◌, ◌≤◌, ◌<◌, ◌^◌, ◌==◌, ◌||◌, Bool, false, not, nat_lt, if◌then◌else◌, List, [], ◌∷◌, ◌++◌, length, find, Contains, Option, Some, None}
 use Rattle.tx_model.specs.declared.op.Op.{Op}
-use Rattle.tx_model.specs.Transactions.{is_before, HasDouble}
+use Rattle.tx_model.specs.Transactions.{is_before, is_among, HasDouble}
 pub use Rattle.tx_model.specs.Applications.{keys_of, named_keys}
-use Rattle.kv_app.specs.Places.{IsOpText, IsBadAt}
+use Rattle.kv_app.specs.Places.{IsOpText, IsBadAt, is_op_text, bad_place}
 use Rattle.proto_model.specs.declared.refusal.BuildFault.{BuildFault}
 use Rattle.proto_model.specs.declared.refusal.BuildFault.TheVariants.{BadOps, TooManyLocks, DoubleLock, PayloadTooLong, Unlocked, LastRequest, Memory}
+use Rattle.client_core.specs.Clients.{ClientOf, after_build}
 use Rattle.client_core.specs.States.{Kept}
+
+-- ---- the refusal, as a function
+
+-- some name stands at two places
+abbrev pub has_double : List (List ℕ) → Bool
+has_double [] = false
+has_double (name ∷ names) = is_among name names || has_double names
+
+-- what is refused whatever keys the ops name
+abbrev pub form_refusal : List (List ℕ) → List (List ℕ) → List ℕ → Option BuildFault
+form_refusal writes reads ops =
+    if not (is_op_text ops) then Some (BadOps (bad_place ops))
+    else if nat_lt 64 (length reads + length writes) then Some TooManyLocks
+    else if has_double (reads ++ writes) then Some DoubleLock
+    else if nat_lt 65536 (length ops) then Some PayloadTooLong
+    else None
+
+-- the least key that the ops name and that is no write lock
+abbrev pub unlocked_key : List (List ℕ) → List ℕ → Option (List ℕ)
+unlocked_key writes ops = find (λ key. not (is_among key writes)) (named_keys ops)
+
+-- the greatest request number is never given out
+abbrev pub request_refusal : ℕ → Option BuildFault
+request_refusal request = if request == 2 ^ 64 - 1 then Some LastRequest else None
+
+abbrev pub or_unlocked : Option (List ℕ) → Option BuildFault → Option BuildFault
+or_unlocked None later = later
+or_unlocked (Some key) later = Some (Unlocked key)
+
+abbrev pub or_earlier : Option BuildFault → Option BuildFault → Option BuildFault
+or_earlier None later = later
+or_earlier (Some fault) later = Some fault
+
+-- why a client builds no transaction, but for want of memory. Of several reasons the first of these is told
+unfoldable pub build_refusal : {S : Type 0} → ClientOf S → List (List ℕ) → List (List ℕ) → List ℕ → Option BuildFault
+build_refusal cl writes reads ops =
+    or_earlier (form_refusal writes reads ops) (or_unlocked (unlocked_key writes ops) (request_refusal cl.request))
+
+-- the client after it built, or refused to for this reason
+abbrev pub after_building : {S : Type 0} → ClientOf S → Option BuildFault → ClientOf S
+after_building cl None = after_build cl
+after_building cl (Some fault) = cl
 
 -- what is to be built
 pub record Draft : Type 0 where

@@ -2,7 +2,7 @@
 use Rattle.std.specs.Prelude.{ℕ, List}
 use Rattle.tx_model.specs.declared.record.Head.{Head}
 use Rattle.tx_model.specs.Applications.{Application}
-use Rattle.proto_model.specs.Clients.{ClientOf, ClientState}
+use Rattle.client_core.specs.Clients.{ClientOf, ClientState}
 
 -- over the value of its application
 pub record Kept (A : Type 0) : Type 0 where

@@ -1,11 +1,11 @@
 use crate::heads::{copy_heads, have_ids_from, is_head_of};
-use crate::unlocked::first_unlocked;
-use kv_app::{App, OpsFault, read_ops, touches};
+use crate::refusing::{form_fault, unlocked_key};
+use kv_app::App;
 use proto_model::{BuildFault, FromServer, ToServer};
 use std::alloc::{AllocError, Global};
 use std::collections::VecDeque;
 use std::marker::Model;
-use tx_model::{Head, Lock, Record, Tx, TxFault};
+use tx_model::{Head, Lock, Record, Tx};
 
 /// So many heads are asked for at once.
 const MAX_HEADS: u8 = 16;
@@ -39,11 +39,12 @@ impl<A: App> Model for Client<A> {
 }
 
 impl<A: App> Client<A> {
-    ghost use Rattle.std.specs.Prelude.{◌≡◌, ◌⊎◌, ◌≤◌, ◌<◌, ◌^◌, [], ◌&&◌, not, IfOk, IfErr, OnOk, OnErr, List, ℕ, IsPermutation};
-    ghost use Rattle.proto_model.specs.Clients.{ClientOf, built, after_build, next_ask, takes_heads, is_none, after_heads, after_entry, applies, after_answer, moves, HasPlace};
-    ghost use Rattle.proto_model.specs.declared.refusal.BuildFault.{BuildFault as Fault};
+    ghost use Rattle.std.specs.Prelude.{◌≡◌, ◌⊎◌, ◌≤◌, ◌<◌, ◌^◌, [], ◌&&◌, not, true, None, Some, IfOk, IfErr, OnOk, OnErr};
+    ghost use Rattle.client_core.specs.Clients.{ClientOf, built, after_build, next_ask, takes_heads, is_none, after_heads, after_entry, applies, after_answer, moves, may_want};
+    ghost use Rattle.tx_model.specs.Transactions.{IsTransaction};
+    ghost use Rattle.proto_model.specs.Validity.{HasPlace, IsValidToServer};
     ghost use Rattle.client_core.specs.States.{state_of};
-    ghost use Rattle.client_core.specs.Building.{draft_of, HasOps, HasPayload, IsLocked, IsBuildable, IsRefusal};
+    ghost use Rattle.client_core.specs.Building.{form_refusal, build_refusal};
 
     /// A client at mark 0 that numbers its requests from this one on.
     pub fn new(alloc: Global, id: u64, request: u64, app: A) -> Client<A>
@@ -84,7 +85,8 @@ impl<A: App> Client<A> {
 
     /// What to ask a server next: for heads where none are kept, else for the record of the first one.
     pub fn next_ask(&self) -> ToServer
-        ensures { result ≡ next_ask (state_of A.state self.now) }
+        ensures value { result ≡ next_ask (state_of A.state self.now) }
+        ensures valid { IsValidToServer result }
     {
         let next = self.mark + 1;
         if self.heads.is_empty() {
@@ -101,26 +103,33 @@ impl<A: App> Client<A> {
         ensures moved { IfOk result (λ moved. moved ≡ moves (state_of A.state self.old) m.now) }
         ensures err { OnErr result (state_of A.state self.new ≡ state_of A.state self.old) }
         ensures same { self.new.client ≡ self.old.client }
+
+        // Memory may be wanted only where the client would move.
+        ensures memory { OnErr result ((moves (state_of A.state self.old) m.now ≡ true) × (may_want A.wants m.now ≡ true)) }
     {
         match m {
-            FromServer::Heads(from, _, heads) => self.take_heads(*from, heads.items()),
-            FromServer::Entry(entry) => self.take_entry(entry),
+            FromServer::Heads(from, _, heads) => self.keep_heads(*from, heads.items()),
+            FromServer::Entry(entry) => self.apply_entry(entry),
             _ => Ok(false),
         }
     }
 
     // Keeps heads that go on from the mark, where none are kept.
-    fn take_heads(&mut self, from: u64, heads: &[Head]) -> Result<bool, AllocError>
+    fn keep_heads(&mut self, from: u64, heads: &[Head]) -> Result<bool, AllocError>
         ensures state { OnOk result (state_of A.state self.new ≡ after_heads (state_of A.state self.old) from heads.now) }
         ensures moved { IfOk result (λ moved. moved ≡ (takes_heads (state_of A.state self.old) from heads.now && not (is_none heads.now))) }
         ensures err { OnErr result (state_of A.state self.new ≡ state_of A.state self.old) }
         ensures same { self.new.client ≡ self.old.client }
+        ensures memory { OnErr result ((takes_heads (state_of A.state self.old) from heads.now && not (is_none heads.now)) ≡ true) }
     {
+        if heads.is_empty() {
+            return Ok(false);
+        }
         if !self.takes_heads(from, heads) {
             return Ok(false);
         }
         self.heads = copy_heads(self.alloc, heads)?;
-        Ok(!heads.is_empty())
+        Ok(true)
     }
 
     // Whether no heads are kept and these go on from the mark.
@@ -131,12 +140,13 @@ impl<A: App> Client<A> {
     }
 
     // Applies the record that follows, where it is the one that the first head told of.
-    fn take_entry(&mut self, entry: &Record) -> Result<bool, AllocError>
+    fn apply_entry(&mut self, entry: &Record) -> Result<bool, AllocError>
         requires { entry.now.id < 2 ^ 48 }
         ensures state { OnOk result (state_of A.state self.new ≡ after_entry A.next (state_of A.state self.old) entry.now) }
         ensures moved { IfOk result (λ moved. moved ≡ applies (state_of A.state self.old) entry.now self.old.heads) }
         ensures err { OnErr result (state_of A.state self.new ≡ state_of A.state self.old) }
         ensures same { self.new.client ≡ self.old.client }
+        ensures memory { OnErr result ((applies (state_of A.state self.old) entry.now self.old.heads ≡ true) × (A.wants entry.now.tx.payload ≡ true)) }
     {
         let Some(head) = self.heads.front() else {
             return Ok(false);
@@ -163,72 +173,69 @@ impl<A: App> Client<A> {
         ops: &[u8],
     ) -> Result<Tx, BuildFault>
         ensures ok { IfOk result (λ tx. tx ≡ built (state_of A.state self.old) self.old.client writes.items reads.items ops.now) }
+        ensures valid { IfOk result IsTransaction }
         ensures after { OnOk result (state_of A.state self.new ≡ after_build (state_of A.state self.old)) }
         ensures same { OnOk result ((self.new.client ≡ self.old.client) × (self.new.app ≡ self.old.app)) }
         ensures err { OnErr result (self.new ≡ self.old) }
 
-        // A refusal has its cause, and where there is a cause it is told, but for want of memory.
-        ensures buildable { OnOk result (IsBuildable (draft_of self.old writes.items reads.items ops.now)) }
-        ensures cause { IfErr result (λ fault. (fault ≡ BuildFault.Memory) ⊎ IsRefusal (draft_of self.old writes.items reads.items ops.now) fault) }
-        ensures exactly { (fault : Fault) → IsRefusal (draft_of self.old writes.items reads.items ops.now) fault → (result ≡ Err fault) ⊎ (result ≡ Err BuildFault.Memory) }
+        // A refusal is told where it stands, and nothing is built. Memory may be wanted once the locks and the form of
+        // the ops are known to be right.
+        ensures built { OnOk result (build_refusal (state_of A.state self.old) writes.items reads.items ops.now ≡ None) }
+        ensures refused { IfErr result (λ fault. (fault ≡ BuildFault.Memory)
+            ⊎ (build_refusal (state_of A.state self.old) writes.items reads.items ops.now ≡ Some fault)) }
+        ensures memory { result ≡ Err BuildFault.Memory → form_refusal writes.items reads.items ops.now ≡ None }
     {
-        let tx = match self.locked_transaction(writes, reads, ops) {
-            Ok(tx) => tx,
-            Err(fault) => return Err(fault),
-        };
-        if self.request == u64::MAX {
-            return Err(BuildFault::LastRequest);
+        match self.refusal(&writes, &reads, ops) {
+            Ok(None) => {}
+            Ok(Some(fault)) => return Err(fault),
+            Err(_) => return Err(BuildFault::Memory),
         }
+        let Ok(tx) = self.transaction(writes, reads, ops) else {
+            return Err(BuildFault::Memory);
+        };
         self.request += 1;
         Ok(tx)
     }
 
-    // The transaction where its ops name write locks only, whatever the number of the request.
-    fn locked_transaction(
+    // Why this is not built, where that can be told for want of memory.
+    fn refusal(
         &self,
-        writes: Vec<Lock>,
-        reads: Vec<Lock>,
+        writes: &[Lock],
+        reads: &[Lock],
         ops: &[u8],
-    ) -> Result<Tx, BuildFault>
-        ensures ok { IfOk result (λ tx. tx ≡ built (state_of A.state self.now) self.now.client writes.items reads.items ops.now) }
-        ensures locked { OnOk result (IsLocked (draft_of self.now writes.items reads.items ops.now)) }
-        ensures cause { IfErr result (λ fault. (fault ≡ BuildFault.Memory) ⊎ IsRefusal (draft_of self.now writes.items reads.items ops.now) fault) }
+    ) -> Result<Option<BuildFault>, AllocError>
+        ensures ok { IfOk result (λ refusal. refusal ≡ build_refusal (state_of A.state self.now) writes.now reads.now ops.now) }
+        ensures err { OnErr result (form_refusal writes.now reads.now ops.now ≡ None) }
     {
-        let read = match read_ops(self.alloc, ops) {
-            Ok(read) => read,
-            Err(OpsFault::Bad(at)) => return Err(BuildFault::BadOps(at)),
-            Err(OpsFault::Memory) => return Err(BuildFault::Memory),
-        };
-        let tx = match self.transaction(writes, reads, ops) {
-            Ok(tx) => tx,
-            Err(fault) => return Err(fault),
-        };
-        let Ok(keys) = touches(self.alloc, &read) else {
-            return Err(BuildFault::Memory);
-        };
-        match first_unlocked(keys, tx.writes()) {
-            Some(key) => Err(BuildFault::Unlocked(key)),
-            None => Ok(tx),
+        if let Some(fault) = form_fault(writes, reads, ops) {
+            return Ok(Some(fault));
         }
+        if let Some(key) = unlocked_key(self.alloc, writes, ops)? {
+            return Ok(Some(BuildFault::Unlocked(key)));
+        }
+        if self.request == u64::MAX {
+            return Ok(Some(BuildFault::LastRequest));
+        }
+        Ok(None)
     }
 
-    // The transaction, whatever keys its ops name.
-    fn transaction(&self, writes: Vec<Lock>, reads: Vec<Lock>, ops: &[u8]) -> Result<Tx, BuildFault>
-        requires { HasOps (draft_of self.now writes.items reads.items ops.now) }
+    // The transaction, where no refusal stands. So only memory can be wanting.
+    fn transaction(&self, writes: Vec<Lock>, reads: Vec<Lock>, ops: &[u8]) -> Result<Tx, AllocError>
         ensures ok { IfOk result (λ tx. tx ≡ built (state_of A.state self.now) self.now.client writes.items reads.items ops.now) }
-        ensures writes { IfOk result (λ tx. IsPermutation writes.items tx.writes) }
-        ensures payload { OnOk result (HasPayload (draft_of self.now writes.items reads.items ops.now)) }
-        ensures cause { IfErr result (λ fault. (fault ≡ BuildFault.Memory) ⊎ IsRefusal (draft_of self.now writes.items reads.items ops.now) fault) }
+        ensures valid { IfOk result IsTransaction }
     {
-        let Ok(payload) = ops.to_vec(self.alloc) else {
-            return Err(BuildFault::Memory);
-        };
-        match Tx::new(self.id, self.request, self.mark, reads, writes, payload) {
+        let payload = Vec::from_slice(self.alloc, ops)?;
+        match Tx::new(
+            self.alloc,
+            self.id,
+            self.request,
+            self.mark,
+            reads,
+            writes,
+            payload,
+        ) {
             Ok(tx) => Ok(tx),
-            Err(TxFault::TooManyLocks) => Err(BuildFault::TooManyLocks),
-            Err(TxFault::DoubleLock) => Err(BuildFault::DoubleLock),
-            Err(TxFault::PayloadTooLong) => Err(BuildFault::PayloadTooLong),
-            Err(TxFault::Memory) => Err(BuildFault::Memory),
+            Err(_) => Err(AllocError),
         }
     }
 }

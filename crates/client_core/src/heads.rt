@@ -1,5 +1,5 @@
 ghost use Rattle.std.specs.Prelude.{◌≡◌, IfOk};
-ghost use Rattle.proto_model.specs.Clients.{are_same, have_ids_from, is_same_head};
+ghost use Rattle.client_core.specs.Clients.{are_same, have_ids_from, is_same_head};
 ghost use Rattle.tx_model.specs.Records.{head_of};
 
 use std::alloc::{AllocError, Global};

@@ -3,8 +3,8 @@
 
 mod client;
 mod heads;
-#[cfg(test)]
-mod tests;
-mod unlocked;
+mod laws;
+mod refusing;
 
 pub use client::Client;
+pub use laws::refusals_are_in_order;

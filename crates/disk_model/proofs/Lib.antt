@@ -8,3 +8,10 @@ pub mod Replayed
 pub mod Kept
 pub mod Cached
 pub mod Keeping
+pub mod Told
+pub mod Filled
+pub mod Firm
+pub mod Trimmed
+pub mod Left
+pub mod Pieces
+pub mod Stretches

@@ -33,8 +33,8 @@ module _ (len : List ℕ → ℕ) (framing : IsFraming len) where
   stop zero bs none = refl
   stop (suc n) bs none = grind (arith, nat_tests)
 
-  first : (bs : List ℕ) → len bs ≢ 0 → IsFrame len (take (len bs) bs)
-  first bs some =
+  pub first_frame : (bs : List ℕ) → len bs ≢ 0 → IsFrame len (take (len bs) bs)
+  first_frame bs some =
       let long : length (take (len bs) bs) ≡ len bs = length-take-le (len bs) bs (framing.fits bs) in
       record { some = omega (arith, long, some); whole = framing.front bs (omega (arith, some)) ∙ sym long }
 
@@ -51,7 +51,7 @@ module _ (len : List ℕ → ℕ) (framing : IsFraming len) where
         subst (λ (fs : List (List ℕ)). Split len bs fs) (sym (step n bs some)) (record {
           rest = later.rest;
           is = sym (take-append-drop (len bs) bs) ∙ ap (λ (l : List ℕ). take (len bs) bs ++ l) later.is ∙ sym (append_assoc (take (len bs) bs) (joined (walk len n (drop (len bs) bs))) later.rest);
-          frames = (first bs some, later.frames);
+          frames = (first_frame bs some, later.frames);
           none = later.none;
         })
   ]
@@ -91,7 +91,7 @@ module _ (len : List ℕ → ℕ) (framing : IsFraming len) where
       let f = take (len bs) bs in
       let gs = frames_in len (drop (len bs) bs) in
       let whole : bs ≡ joined (f ∷ gs) ++ later.rest = sym (take-append-drop (len bs) bs) ∙ ap (λ (l : List ℕ). f ++ l) later.is ∙ sym (append_assoc f (joined gs) later.rest) in
-      ap (λ (l : List ℕ). frames_in len l) whole ∙ frames_in-joined (f ∷ gs) later.rest (first bs some, later.frames) later.none
+      ap (λ (l : List ℕ). frames_in len l) whole ∙ frames_in-joined (f ∷ gs) later.rest (first_frame bs some, later.frames) later.none
 
   -- frames that begin other frames are the first of them
   pub first_of_them : (ts ns : List (List ℕ)) (more rest : List ℕ) → AllByRecursion (IsFrame len) ts → AllByRecursion (IsFrame len) ns → len rest ≡ 0 → joined ts ++ more ≡ joined ns ++ rest
@@ -110,3 +110,15 @@ module _ (len : List ℕ → ℕ) (framing : IsFraming len) where
       let tail : joined ts ++ more ≡ joined ns ++ rest = append_cancel_left t (joined ts ++ more) (joined ns ++ rest) (whole ∙ ap (λ (l : List ℕ). l ++ (joined ns ++ rest)) (sym head)) in
       let later = first_of_them ts ns more rest all_t.1 all_n.1 none tail in
       (suc later.0, omega (arith, later.1), ap (λ (l : List ℕ). l ∷ ts) head ∙ ap (λ (l : List (List ℕ)). n ∷ l) later.2)
+
+  -- a front of bytes that begin with no frame begins with none
+  pub none_before : (front more : List ℕ) → len (front ++ more) ≡ 0 → len front ≡ 0
+  none_before front more none = elim (cases_eq (len front) 0) [
+    | inl is ↦ is
+    | inr some ↦
+        let f = take (len front) front in
+        let frame = first_frame front some in
+        let whole : front ++ more ≡ f ++ (drop (len front) front ++ more) = ap (λ (l : List ℕ). l ++ more) (sym (take-append-drop (len front) front)) ∙ append_assoc f (drop (len front) front) more in
+        let there : len (front ++ more) ≡ length f = ap len whole ∙ framing.alone f (drop (len front) front ++ more) frame in
+        absurd (omega (arith, there, none, frame.some))
+  ]

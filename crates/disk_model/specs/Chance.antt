@@ -1,8 +1,8 @@
 -- An image that passes its checks by chance.
 use Rattle.std.specs.Prelude.{◌≡◌, ◌≢◌, ◌⊎◌, ℕ, ◌+◌, ◌<◌, ◌≤◌, true, List, ◌++◌, length, take, drop}
 use Rattle.std.specs.List.{AllByRecursion}
-use Rattle.disk_model.specs.File.{File}
-use Rattle.disk_model.specs.Frames.{IsFrame, joined}
+use Rattle.disk_model.specs.File.{File, IsImage}
+use Rattle.disk_model.specs.Frames.{IsFrame, joined, frames_in}
 
 -- one of the frames that these bytes begin with
 pub record FrameOf (len : List ℕ → ℕ) (c : List ℕ) : Type 0 where
@@ -38,3 +38,12 @@ PassesByChance len file c = (f : FrameOf len c) × (IsOther file f ⊎ StandsWhe
 -- Of an image of all files, each read under a framing of its own, some file passes by chance.
 abbrev pub AnyByChance : (ℕ → List ℕ → ℕ) → (ℕ → File) → (ℕ → List ℕ) → Type 0
 AnyByChance len files image = (q : ℕ) × PassesByChance (len q) (files q) (image q)
+
+-- What a crash may leave of a file: an image that does not pass by chance, or any where the disk is plain.
+pub record MayLeave (plain : Type 0) (len : List ℕ → ℕ) (file : File) (c : List ℕ) : Type 0 where
+  pub image : IsImage file c
+  pub no_chance : plain ⊎ (PassesByChance len file c → ⊥)
+
+-- Whatever a crash may leave begins with frames that have P.
+abbrev pub EachLeft : Type 0 → (List ℕ → ℕ) → (List (List ℕ) → Type 0) → File → Type 0
+EachLeft plain len P file = (c : List ℕ) → MayLeave plain len file c → P (frames_in len c)

@@ -5,4 +5,5 @@ pub mod Chance
 pub mod Replay
 pub mod MemDisk
 pub mod Laws
-pub mod Unloaded
+pub mod LoadFaults
+pub mod Stretches

@@ -43,7 +43,8 @@ pub trait Disk {
     fn read(&mut self, file: u32, at: u64, into: &mut [u8]) -> Result<usize, Failed>
         ensures bound { IfOk result (λ n. n ≤ length into.old) }
         ensures room { IfOk result (λ n. at + n < 2 ^ 64) }
-        ensures read { IfOk result (λ n. tells → IsRead ((history self.old).now file).reads at into.new n) }
+        ensures read { IfOk result (λ n. tells →
+            IsRead ((history self.old).now file).reads at into.new n) }
         ensures same { tells → history self.new ≡ history self.old }
         ensures cause { HasCause (faults self.old) (faults self.new) result }
         ensures keeps { KeepsWorking reliable unfailing self.old self.new (IsErr result) };
@@ -55,31 +56,38 @@ pub trait Disk {
         // Meanwhile the file has no image that it wouldn't have with the write done. Where the bytes are added at the
         // end, what was put meanwhile is a front of what is put then.
         ensures moments { tells → EachMoment file
-            (IsDuring (at ≡ length ((history self.old).now file).reads) (written at bytes.now ((history self.old).now file)))
+            (IsDuring (at ≡ length ((history self.old).now file).reads)
+            (written at bytes.now ((history self.old).now file)))
             (history self.old) (history self.new) }
 
-        ensures reads { OnOk result (tells → ((history self.new).now file).reads ≡ overlaid ((history self.old).now file).reads at bytes.now) }
+        ensures reads { OnOk result (tells →
+            ((history self.new).now file).reads
+            ≡ overlaid ((history self.old).now file).reads at bytes.now) }
         ensures room { OnOk result (at + length bytes.now < 2 ^ 64) }
         ensures memory { result ≡ Err Fault.Memory → tells → history self.new ≡ history self.old }
         ensures cause { HasCauseOrMemory (faults self.old) (faults self.new) result }
-        ensures keeps { KeepsWorking reliable unfailing self.old self.new (result ≡ Err Fault.Failed) };
+        ensures keeps { KeepsWorking reliable unfailing self.old self.new
+            (result ≡ Err Fault.Failed) };
 
     /// Cuts the file to a length. A shorter file stays as it is.
     fn cut(&mut self, file: u32, len: u64) -> Result<(), Fault>
         ensures moments { tells → EachMoment file
             (IsDuring (Unit {0}) (shortened len ((history self.old).now file)))
             (history self.old) (history self.new) }
-        ensures reads { OnOk result (tells → ((history self.new).now file).reads ≡ take len ((history self.old).now file).reads) }
+        ensures reads { OnOk result (tells →
+            ((history self.new).now file).reads ≡ take len ((history self.old).now file).reads) }
         ensures memory { result ≡ Err Fault.Memory → tells → history self.new ≡ history self.old }
         ensures cause { HasCauseOrMemory (faults self.old) (faults self.new) result }
-        ensures keeps { KeepsWorking reliable unfailing self.old self.new (result ≡ Err Fault.Failed) };
+        ensures keeps { KeepsWorking reliable unfailing self.old self.new
+            (result ≡ Err Fault.Failed) };
 
     /// Puts all that is read of the file where a crash leaves it.
     fn sync(&mut self, file: u32) -> Result<(), Failed>
         ensures moments { tells → EachMoment file
             (λ f. f ≡ settled ((history self.old).now file).reads)
             (history self.old) (history self.new) }
-        ensures synced { OnOk result (tells → (history self.new).now file ≡ settled ((history self.old).now file).reads) }
+        ensures synced { OnOk result (tells →
+            (history self.new).now file ≡ settled ((history self.old).now file).reads) }
         ensures cause { HasCause (faults self.old) (faults self.new) result }
         ensures keeps { KeepsWorking reliable unfailing self.old self.new (IsErr result) };
 

@@ -39,7 +39,8 @@ impl Model for MemDisk {
 
     ghost view = { λ m. record { changes = m.changes.items; fails = m.fails.items; fuse = m.fuse; calls = m.calls; faults = m.faults } };
 
-    ghost invariant = { λ m. (q : ℕ) → bytes_of m.files q ≡ ((history_of m.changes.items).now q).reads };
+    ghost invariant = { λ m. (q : ℕ) → bytes_of m.files q
+        ≡ ((history_of m.changes.items).now q).reads };
 }
 
 impl MemDisk {
@@ -53,7 +54,8 @@ impl MemDisk {
     /// An empty disk. Call number k, counted from 1 and up to the greatest `u64`, fails where k stands in `fails`. A
     /// call that meets want of memory is not counted.
     pub fn failing(alloc: Global, fails: Vec<u64>) -> MemDisk
-        ensures { result ≡ record { changes = []; fails = fails.items; fuse = Off; calls = 0; faults = 0 } }
+        ensures { result
+            ≡ record { changes = []; fails = fails.items; fuse = Off; calls = 0; faults = 0 } }
     {
         MemDisk {
             alloc,
@@ -138,7 +140,10 @@ fn put(
     bytes: &[u8],
 ) -> Result<(), AllocError>
     requires { at ≤ length (bytes_of files.old file) }
-    ensures ok { OnOk result ((q : ℕ) → bytes_of files.new q ≡ (if q == file then overlaid (bytes_of files.old file) at bytes.now else bytes_of files.old q)) }
+    ensures ok { OnOk result
+        ((q : ℕ) → bytes_of files.new q
+        ≡ (if q == file then overlaid (bytes_of files.old file) at bytes.now
+        else bytes_of files.old q)) }
     ensures room { OnOk result (at + length bytes.now < 2 ^ 64) }
     ensures err { OnErr result ((q : ℕ) → bytes_of files.new q ≡ bytes_of files.old q) }
 {
@@ -155,7 +160,8 @@ fn create(
     file: u32,
     bytes: &[u8],
 ) -> Result<(), AllocError>
-    ensures ok { OnOk result ((q : ℕ) → bytes_of files.new q ≡ (if q == file then bytes.now else bytes_of files.old q)) }
+    ensures ok { OnOk result
+        ((q : ℕ) → bytes_of files.new q ≡ (if q == file then bytes.now else bytes_of files.old q)) }
     ensures room { length bytes.now < 2 ^ 64 }
     ensures err { OnErr result ((q : ℕ) → bytes_of files.new q ≡ bytes_of files.old q) }
 {
@@ -165,7 +171,8 @@ fn create(
 
 // Cuts a file.
 fn shorten(files: &mut BTreeMap<u32, Vec<u8>>, file: u32, len: usize)
-    ensures { (q : ℕ) → bytes_of files.new q ≡ (if q == file then take len (bytes_of files.old file) else bytes_of files.old q) }
+    ensures { (q : ℕ) → bytes_of files.new q
+        ≡ (if q == file then take len (bytes_of files.old file) else bytes_of files.old q) }
 {
     if let Some(content) = files.get_mut(&file) {
         content.truncate(len);
@@ -193,7 +200,8 @@ impl Disk for MemDisk {
     ghost settles = { λ m t p. mem_plain m.changes };
 
     fn len(&mut self, file: u32) -> Result<u64, Failed>
-        ensures len { IfOk result (λ n. Unit {0} → n ≡ length ((mem_history self.old).now file).reads) }
+        ensures len { IfOk result (λ n. Unit {0} →
+            n ≡ length ((mem_history self.old).now file).reads) }
         ensures same { Unit {0} → mem_history self.new ≡ mem_history self.old }
         ensures cause { HasCause self.old.faults self.new.faults result }
         ensures keeps { KeepsWorking IsReliable IsUnfailing self.old self.new (IsErr result) }
@@ -211,13 +219,15 @@ impl Disk for MemDisk {
     fn read(&mut self, file: u32, at: u64, into: &mut [u8]) -> Result<usize, Failed>
         ensures bound { IfOk result (λ n. n ≤ length into.old) }
         ensures room { IfOk result (λ n. at + n < 2 ^ 64) }
-        ensures read { IfOk result (λ n. Unit {0} → IsRead ((mem_history self.old).now file).reads at into.new n) }
+        ensures read { IfOk result (λ n. Unit {0} →
+            IsRead ((mem_history self.old).now file).reads at into.new n) }
         ensures same { Unit {0} → mem_history self.new ≡ mem_history self.old }
         ensures cause { HasCause self.old.faults self.new.faults result }
         ensures keeps { KeepsWorking IsReliable IsUnfailing self.old self.new (IsErr result) }
 
         ensures fails { IsErr result ↔ MustFail self.old }
-        ensures count { IfOk result (λ n. n ≡ min (length into.old) (length ((mem_history self.old).now file).reads - at)) }
+        ensures count { IfOk result
+            (λ n. n ≡ min (length into.old) (length ((mem_history self.old).now file).reads - at)) }
         ensures after { self.new ≡ call_after self.old result }
     {
         if self.refuses() {
@@ -230,25 +240,35 @@ impl Disk for MemDisk {
     fn write_at(&mut self, file: u32, at: u64, bytes: &[u8]) -> Result<(), Fault>
         requires { Unit {0} → at ≤ length ((mem_history self.old).now file).reads }
         ensures moments { Unit {0} → EachMoment file
-            (IsDuring (at ≡ length ((mem_history self.old).now file).reads) (written at bytes.now ((mem_history self.old).now file)))
+            (IsDuring (at ≡ length ((mem_history self.old).now file).reads)
+            (written at bytes.now ((mem_history self.old).now file)))
             (mem_history self.old) (mem_history self.new) }
-        ensures reads { OnOk result (Unit {0} → ((mem_history self.new).now file).reads ≡ overlaid ((mem_history self.old).now file).reads at bytes.now) }
+        ensures reads { OnOk result (Unit {0} →
+            ((mem_history self.new).now file).reads
+            ≡ overlaid ((mem_history self.old).now file).reads at bytes.now) }
         ensures room { OnOk result (at + length bytes.now < 2 ^ 64) }
-        ensures memory { result ≡ Err Fault.Memory → Unit {0} → mem_history self.new ≡ mem_history self.old }
+        ensures memory { result ≡ Err Fault.Memory → Unit {0} →
+            mem_history self.new ≡ mem_history self.old }
         ensures cause { HasCauseOrMemory self.old.faults self.new.faults result }
-        ensures keeps { KeepsWorking IsReliable IsUnfailing self.old self.new (result ≡ Err Fault.Failed) }
+        ensures keeps { KeepsWorking IsReliable IsUnfailing self.old self.new
+            (result ≡ Err Fault.Failed) }
 
         // Meanwhile the file reads as before with a front of the bytes written, and a crash leaves just that.
         ensures fronts { EachMoment file
-            (λ f. IsFrontWritten at (let_through self.old.fuse (length bytes.now)) bytes.now ((mem_history self.old).now file).reads f)
+            (λ f. IsFrontWritten at (let_through self.old.fuse (length bytes.now)) bytes.now
+            ((mem_history self.old).now file).reads f)
             (mem_history self.old) (mem_history self.new) }
 
         // A call that must fail changes no byte. Any other one keeps what the fuse lets through, and fails where that
         // is not all.
-        ensures must { MustFail self.old → (result ≡ Err Fault.Failed) × (self.new ≡ refused self.old) }
-        ensures fails { IsErrOf result Fault.Failed → MustFail self.old ⊎ (let_through self.old.fuse (length bytes.now) < length bytes.now) }
-        ensures all { OnOk result (let_through self.old.fuse (length bytes.now) ≡ length bytes.now) }
-        ensures after { ¬ MustFail self.old → self.new ≡ write_after self.old file at bytes.now result }
+        ensures must { MustFail self.old →
+            (result ≡ Err Fault.Failed) × (self.new ≡ refused self.old) }
+        ensures fails { IsErrOf result Fault.Failed →
+            MustFail self.old ⊎ (let_through self.old.fuse (length bytes.now) < length bytes.now) }
+        ensures all { OnOk result
+            (let_through self.old.fuse (length bytes.now) ≡ length bytes.now) }
+        ensures after { ¬ MustFail self.old →
+            self.new ≡ write_after self.old file at bytes.now result }
     {
         if self.refuses() {
             return Err(Fault::Failed);
@@ -272,10 +292,14 @@ impl Disk for MemDisk {
         ensures moments { Unit {0} → EachMoment file
             (IsDuring (Unit {0}) (shortened len ((mem_history self.old).now file)))
             (mem_history self.old) (mem_history self.new) }
-        ensures reads { OnOk result (Unit {0} → ((mem_history self.new).now file).reads ≡ take len ((mem_history self.old).now file).reads) }
-        ensures memory { result ≡ Err Fault.Memory → Unit {0} → mem_history self.new ≡ mem_history self.old }
+        ensures reads { OnOk result (Unit {0} →
+            ((mem_history self.new).now file).reads
+            ≡ take len ((mem_history self.old).now file).reads) }
+        ensures memory { result ≡ Err Fault.Memory → Unit {0} →
+            mem_history self.new ≡ mem_history self.old }
         ensures cause { HasCauseOrMemory self.old.faults self.new.faults result }
-        ensures keeps { KeepsWorking IsReliable IsUnfailing self.old self.new (result ≡ Err Fault.Failed) }
+        ensures keeps { KeepsWorking IsReliable IsUnfailing self.old self.new
+            (result ≡ Err Fault.Failed) }
 
         ensures fails { IsErrOf result Fault.Failed ↔ MustFail self.old }
         ensures after { self.new ≡ cut_after self.old file len result }
@@ -294,7 +318,8 @@ impl Disk for MemDisk {
         ensures moments { Unit {0} → EachMoment file
             (λ f. f ≡ settled ((mem_history self.old).now file).reads)
             (mem_history self.old) (mem_history self.new) }
-        ensures synced { OnOk result (Unit {0} → (mem_history self.new).now file ≡ settled ((mem_history self.old).now file).reads) }
+        ensures synced { OnOk result (Unit {0} →
+            (mem_history self.new).now file ≡ settled ((mem_history self.old).now file).reads) }
         ensures cause { HasCause self.old.faults self.new.faults result }
         ensures keeps { KeepsWorking IsReliable IsUnfailing self.old self.new (IsErr result) }
 

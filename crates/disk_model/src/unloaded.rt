@@ -1,5 +1,5 @@
 ghost use Rattle.std.specs.Prelude.{◌≡◌};
-ghost use Rattle.disk_model.specs.Unloaded.{load_fault};
+ghost use Rattle.disk_model.specs.LoadFaults.{load_fault};
 ghost use Rattle.disk_model.specs.declared.unloaded.LoadFault.TheVariants.{Disk, Memory};
 
 use io_core::{Failed, Fault};

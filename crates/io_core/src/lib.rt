@@ -12,6 +12,3 @@ pub use line::{MAX_LINE, Pending, ReadLine, next_byte, next_line};
 pub use number::read_number;
 pub use sink::{MemSink, Sink, write_all};
 pub use source::{MemSource, Source};
-
-#[cfg(test)]
-mod tests;

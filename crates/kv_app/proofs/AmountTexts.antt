@@ -34,7 +34,7 @@ plain_count b text plain (pos n, amount) = (n, record { least_is = omega arith; 
 plain_count b text plain (negsuc n, amount) = absurd (plain (ap (λ xs. get_or xs 0 0) amount.text_is))
 
 -- a sign in front
-signed_count : (text : List ℕ) → IsAmountText (45 ∷ text) → IsCountText 1 text
+pub signed_count : (text : List ℕ) → IsAmountText (45 ∷ text) → IsCountText 1 text
 signed_count text (pos n, amount) = absurd (omega (arith, first_is_digit n 45 text (omega (arith, ints, amount.valid.most)) amount.text_is))
 signed_count text (negsuc n, amount) = (suc n, record { least_is = omega arith; most_is = omega (arith, ints, amount.valid.least); text_is = cc })
 

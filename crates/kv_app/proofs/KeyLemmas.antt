@@ -44,7 +44,7 @@ front_bound text more len n front within short bytes = elim (cases_lt len n) [
   | inr le ↦ le
 ]
 
-are_key_bytes-front : (xs more : List ℕ) → are_key_bytes (xs ++ more) ≡ true → are_key_bytes xs ≡ true
+pub are_key_bytes-front : (xs more : List ℕ) → are_key_bytes (xs ++ more) ≡ true → are_key_bytes xs ≡ true
 are_key_bytes-front [] more h = refl
 are_key_bytes-front (x ∷ xs) more h =
     let parts = and_parts (is_key_byte x) (are_key_bytes (xs ++ more)) h in

@@ -11,3 +11,5 @@ pub mod WordTexts
 pub mod NumberLemmas
 pub mod TextLemmas
 pub mod TouchLemmas
+pub mod Endings
+pub mod Empties

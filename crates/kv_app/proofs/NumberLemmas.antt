@@ -47,7 +47,7 @@ with_none app key none = same_application (with_number app key None) app (λ q. 
     go Equal q e = sym (ap (finite.get app) (exact_bytes q key e) ∙ none)
     go Greater q e = refl
 
-some_is : {A : Type 0} {o : Option A} {x : A} → o ≡ Some x → IsSome o
+pub some_is : {A : Type 0} {o : Option A} {x : A} → o ≡ Some x → IsSome o
 some_is e = subst IsSome (sym e) refl
 
 module _ {K : Type 0} (bytes : K → List ℕ) where

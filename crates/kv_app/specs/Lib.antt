@@ -3,3 +3,4 @@ pub mod Parts
 pub mod Pieces
 pub mod Touches
 pub mod Numbers
+pub mod WellLocked

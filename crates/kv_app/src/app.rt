@@ -1,4 +1,4 @@
-ghost use Rattle.std.specs.Prelude.{◌≡◌, ℕ, List, IfOk, OnOk, OnErr};
+ghost use Rattle.std.specs.Prelude.{◌≡◌, ℕ, Bool, true, List, IfOk, OnOk, OnErr};
 
 use std::alloc::AllocError;
 
@@ -11,13 +11,17 @@ pub trait App {
 
     ghost next: { State → List ℕ → State };
 
+    /// Which payloads may want memory to be applied.
+    ghost wants: { List ℕ → Bool };
+
     /// What a state is printed as.
     ghost shown: { State → List ℕ };
 
     /// Goes to the next state, or leaves the state for want of memory.
     fn apply(&mut self, payload: &[u8]) -> Result<(), AllocError>
         ensures ok { OnOk result (state self.new ≡ next (state self.old) payload.now) }
-        ensures err { OnErr result (state self.new ≡ state self.old) };
+        ensures err { OnErr result (state self.new ≡ state self.old) }
+        ensures memory { OnErr result (wants payload.now ≡ true) };
 
     /// The state as text.
     fn text(&self) -> Result<Vec<u8>, AllocError>

@@ -6,15 +6,7 @@ ghost use Rattle.kv_app.specs.Parts.{IsPair, IsPairText};
 
 use crate::amount::read_amount;
 use crate::front::after_byte;
-
-/// How many bytes a key has at most.
-const MAX_KEY: usize = 64;
-
-fn is_key_byte(byte: u8) -> bool
-    ensures { result ≡ is_key_byte byte }
-{
-    matches!(byte, b'a'..=b'z' | b'0'..=b'9' | b'_')
-}
+use tx_model::{MAX_KEY, is_key_byte};
 
 // How many bytes at the front a key may have, at most 64.
 fn key_len(text: &[u8]) -> usize

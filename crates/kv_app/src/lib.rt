@@ -14,13 +14,12 @@ mod laws;
 mod numbers;
 mod ops;
 mod piece;
-#[cfg(test)]
-mod tests;
 mod touched;
 
 pub use app::App;
+pub use check::bad_place;
 pub use kv::KvApp;
-pub use laws::op_texts_spell_their_ops;
+pub use laws::{bad_places_are_found, op_texts_spell_their_ops};
 pub use ops::{OpsFault, read_ops};
 pub use touched::touches;
 pub use tx_model::Op;

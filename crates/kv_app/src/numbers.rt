@@ -1,10 +1,12 @@
-//! The map behind an application. A key whose number is `None` is one that room was made for.
-ghost use Rattle.std.specs.Prelude.{◌≡◌, ◌++◌, ℕ, List, All, IfOk, OnOk, OnErr};
+//! The map behind an application. While a payload is applied a key may have no number: room was made for it, or it was
+//! deleted.
+ghost use Rattle.std.specs.Prelude.{◌≡◌, ◌⊎◌, ◌++◌, ℕ, List, All, IfOk, OnOk, OnErr};
 ghost use Rattle.std.specs.Option.{IsSome};
 ghost use Rattle.tx_model.specs.Applications.{after_op, after_ops, application_text, pair_text};
-ghost use Rattle.kv_app.specs.Numbers.{application_of, entry_at, entry_text, HasRoom, number_after};
+ghost use Rattle.kv_app.specs.Numbers.{application_of, entry_at, entry_text, HasRoom, number_after, IsEmptyAt, HaveNumbers, Gives, Deletes, SomeFrom};
 
 use crate::touched::key_of;
+use itoa::Buffer;
 use std::alloc::{AllocError, Global};
 use std::collections::BTreeMap;
 use tx_model::Op;
@@ -16,6 +18,7 @@ fn make_entry(alloc: Global, numbers: &mut Numbers, key: &[u8]) -> Result<(), Al
     ensures same { application_of (λ k. k.items) numbers.new.entries ≡ application_of (λ k. k.items) numbers.old.entries }
     ensures made { OnOk result (IsSome (entry_at (λ k. k.items) numbers.new.entries key.now)) }
     ensures kept { (q : List ℕ) → IsSome (entry_at (λ k. k.items) numbers.old.entries q) → IsSome (entry_at (λ k. k.items) numbers.new.entries q) }
+    ensures empty { (q : List ℕ) → IsEmptyAt (λ k. k.items) numbers.new.entries q → IsEmptyAt (λ k. k.items) numbers.old.entries q ⊎ (q ≡ key.now) }
 {
     if numbers.contains_key(key) {
         return Ok(());
@@ -31,6 +34,7 @@ fn make_entry(alloc: Global, numbers: &mut Numbers, key: &[u8]) -> Result<(), Al
 fn make_room(alloc: Global, numbers: &mut Numbers, ops: &[Op]) -> Result<(), AllocError>
     ensures same { application_of (λ k. k.items) numbers.new.entries ≡ application_of (λ k. k.items) numbers.old.entries }
     ensures made { OnOk result (All (HasRoom (λ k. k.items) numbers.new.entries) ops.now) }
+    ensures empty { (q : List ℕ) → IsEmptyAt (λ k. k.items) numbers.new.entries q → IsEmptyAt (λ k. k.items) numbers.old.entries q ⊎ SomeFrom 0 (Gives q) ops.now }
 {
     for op in ops {
         match op {
@@ -57,6 +61,7 @@ fn change(numbers: &mut Numbers, op: &Op)
     requires { HasRoom (λ k. k.items) numbers.old.entries op.now }
     ensures changed { application_of (λ k. k.items) numbers.new.entries ≡ after_op (application_of (λ k. k.items) numbers.old.entries) op.now }
     ensures kept { (q : List ℕ) → IsSome (entry_at (λ k. k.items) numbers.old.entries q) → IsSome (entry_at (λ k. k.items) numbers.new.entries q) }
+    ensures empty { (q : List ℕ) → IsEmptyAt (λ k. k.items) numbers.new.entries q → Deletes q op.now ⊎ (IsEmptyAt (λ k. k.items) numbers.old.entries q × ¬ Gives q op.now) }
 {
     if let Some(number) = numbers.get_mut(key_of(op).bytes()) {
         *number = number_after(*number, op);
@@ -65,73 +70,88 @@ fn change(numbers: &mut Numbers, op: &Op)
 
 // Takes away a key that has no number.
 fn drop_empty(numbers: &mut Numbers, key: &[u8])
-    ensures { application_of (λ k. k.items) numbers.new.entries ≡ application_of (λ k. k.items) numbers.old.entries }
+    ensures same { application_of (λ k. k.items) numbers.new.entries ≡ application_of (λ k. k.items) numbers.old.entries }
+    ensures empty { (q : List ℕ) → IsEmptyAt (λ k. k.items) numbers.new.entries q → IsEmptyAt (λ k. k.items) numbers.old.entries q × ¬ (q ≡ key.now) }
 {
     if let Some(None) = numbers.get(key) {
         numbers.remove(key);
     }
 }
 
-// Takes away the keys of the operations that have no number.
-fn sweep(numbers: &mut Numbers, ops: &[Op])
-    ensures { application_of (λ k. k.items) numbers.new.entries ≡ application_of (λ k. k.items) numbers.old.entries }
+// Takes away the keys that room was made for in vain.
+fn drop_rooms(numbers: &mut Numbers, ops: &[Op])
+    ensures same { application_of (λ k. k.items) numbers.new.entries ≡ application_of (λ k. k.items) numbers.old.entries }
+    ensures empty { (q : List ℕ) → IsEmptyAt (λ k. k.items) numbers.new.entries q → IsEmptyAt (λ k. k.items) numbers.old.entries q × ¬ SomeFrom 0 (Gives q) ops.now }
 {
     for op in ops {
-        drop_empty(numbers, key_of(op).bytes());
+        match op {
+            Op::Set(key, _) | Op::Add(key, _) => drop_empty(numbers, key.bytes()),
+            Op::Del(_) => {}
+        }
+    }
+}
+
+// Takes away the keys that were deleted and not given a number since.
+fn drop_deleted(numbers: &mut Numbers, ops: &[Op])
+    ensures same { application_of (λ k. k.items) numbers.new.entries ≡ application_of (λ k. k.items) numbers.old.entries }
+    ensures empty { (q : List ℕ) → IsEmptyAt (λ k. k.items) numbers.new.entries q → IsEmptyAt (λ k. k.items) numbers.old.entries q × ¬ SomeFrom 0 (Deletes q) ops.now }
+{
+    for op in ops {
+        if let Op::Del(key) = op {
+            drop_empty(numbers, key.bytes());
+        }
     }
 }
 
 // Does the operations in order. Each has room.
 fn change_each(numbers: &mut Numbers, ops: &[Op])
     requires { All (HasRoom (λ k. k.items) numbers.old.entries) ops.now }
-    ensures { application_of (λ k. k.items) numbers.new.entries ≡ after_ops (application_of (λ k. k.items) numbers.old.entries) ops.now }
+    ensures changed { application_of (λ k. k.items) numbers.new.entries ≡ after_ops (application_of (λ k. k.items) numbers.old.entries) ops.now }
+    ensures empty { (q : List ℕ) → IsEmptyAt (λ k. k.items) numbers.new.entries q → SomeFrom 0 (Deletes q) ops.now ⊎ (IsEmptyAt (λ k. k.items) numbers.old.entries q × ¬ SomeFrom 0 (Gives q) ops.now) }
 {
     for op in ops {
         change(numbers, op);
     }
 }
 
-/// Does the operations in order, or none of them for want of memory.
+/// Does the operations in order, or none of them for want of memory. A deleted key is gone.
 pub(crate) fn change_all(alloc: Global, numbers: &mut Numbers, ops: &[Op]) -> Result<(), AllocError>
+    requires { HaveNumbers (λ k. k.items) numbers.old.entries }
     ensures ok { OnOk result (application_of (λ k. k.items) numbers.new.entries ≡ after_ops (application_of (λ k. k.items) numbers.old.entries) ops.now) }
     ensures err { OnErr result (application_of (λ k. k.items) numbers.new.entries ≡ application_of (λ k. k.items) numbers.old.entries) }
+    ensures filled { HaveNumbers (λ k. k.items) numbers.new.entries }
 {
     match make_room(alloc, numbers, ops) {
         Ok(()) => {
             change_each(numbers, ops);
-            sweep(numbers, ops);
+            drop_deleted(numbers, ops);
             Ok(())
         }
         Err(fault) => {
-            sweep(numbers, ops);
+            drop_rooms(numbers, ops);
             Err(fault)
         }
     }
 }
 
 // Puts a space and key=value behind the text.
-fn put_pair(alloc: Global, text: &mut Vec<u8>, key: &[u8], number: i64) -> Result<(), AllocError>
+fn put_pair(text: &mut Vec<u8>, key: &[u8], number: i64) -> Result<(), AllocError>
     ensures { OnOk result (text.new.items ≡ text.old.items ++ pair_text (key.now, number)) }
 {
     text.push(b' ')?;
     text.extend_from_slice(key)?;
     text.push(b'=')?;
-    let number = format!(in alloc; "{number}")?;
-    text.extend_from_slice(number.as_bytes())?;
+    let mut digits = Buffer::new();
+    text.extend_from_slice(digits.format(number).as_bytes())?;
     Ok(())
 }
 
 // Puts the same behind the text where the key has a number.
-fn put_entry(
-    alloc: Global,
-    text: &mut Vec<u8>,
-    key: &[u8],
-    number: Option<i64>,
-) -> Result<(), AllocError>
+fn put_entry(text: &mut Vec<u8>, key: &[u8], number: Option<i64>) -> Result<(), AllocError>
     ensures { OnOk result (text.new.items ≡ text.old.items ++ entry_text key.now number) }
 {
     match number {
-        Some(number) => put_pair(alloc, text, key, number),
+        Some(number) => put_pair(text, key, number),
         None => Ok(()),
     }
 }
@@ -142,7 +162,7 @@ pub(crate) fn text_of(alloc: Global, numbers: &Numbers) -> Result<Vec<u8>, Alloc
 {
     let mut text = Vec::new(alloc);
     for (key, number) in numbers {
-        put_entry(alloc, &mut text, key, *number)?;
+        put_entry(&mut text, key, *number)?;
     }
     Ok(text)
 }

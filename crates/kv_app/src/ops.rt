@@ -2,7 +2,7 @@ ghost use Rattle.std.specs.Prelude.{◌≡◌, ◌↔◌, ℕ, IfOk};
 ghost use Rattle.tx_model.specs.Applications.{SpellsOps};
 ghost use Rattle.kv_app.specs.Places.{IsBadAt, IsOpText};
 
-use crate::check::first_fault;
+use crate::check::bad_place;
 use crate::piece::{owned, read_piece};
 use std::alloc::{AllocError, Global};
 use tx_model::Op;
@@ -20,8 +20,8 @@ pub fn read_ops(alloc: Global, payload: &[u8]) -> Result<Vec<Op>, OpsFault>
     ensures ok { IfOk result (λ ops. SpellsOps payload.now ops.items) }
     ensures bad { (at : ℕ) → (result ≡ Err (OpsFault.Bad at)) ↔ IsBadAt payload.now at }
 {
-    match first_fault(payload) {
-        Some(len) => Err(OpsFault::Bad(len as u64 + 1)),
+    match bad_place(payload) {
+        Some(at) => Err(OpsFault::Bad(at)),
         None => match made_ops(alloc, payload) {
             Ok(ops) => Ok(ops),
             Err(_) => Err(OpsFault::Memory),
@@ -29,8 +29,8 @@ pub fn read_ops(alloc: Global, payload: &[u8]) -> Result<Vec<Op>, OpsFault>
     }
 }
 
-// The operations of an op text.
-fn made_ops(alloc: Global, payload: &[u8]) -> Result<Vec<Op>, AllocError>
+/// The operations of an op text.
+pub(crate) fn made_ops(alloc: Global, payload: &[u8]) -> Result<Vec<Op>, AllocError>
     requires { IsOpText payload.now }
     ensures { IfOk result (λ ops. SpellsOps payload.now ops.items) }
 {

@@ -9,7 +9,7 @@ use Rattle.tx_model.specs.Transactions.{Transaction, named_locks, held_locks}
 use Rattle.tx_model.specs.declared.record.Record.{Record}
 use Rattle.tx_model.specs.Hashes.{slot_of}
 use Rattle.tx_model.specs.Probes.{Shape, Conflict, has_slot, slot_mark, least, probed_mark, first_above, admission}
-use Rattle.lock_table.specs.Tables.{Table, IsTable, shape_of, entry_of, probe_of, conflict_of, TableStandsFor, AreRaised}
+use Rattle.lock_table.specs.Tables.{Table, IsTable, table_shape, entry_of, probe_of, conflict_of, TableStandsFor, AreRaised}
 
 pub slot_within : (slots row : ℕ) (lock : List ℕ) → 1 ≤ slots → slot_of slots row lock < slots
 unfolding slot_of
@@ -74,7 +74,7 @@ slot_mark-append slots row slot start (a ∷ log) r =
     ap (λ x. if has_slot slots row slot (held_locks a.tx) then max a.id x else x) (slot_mark-append slots row slot start log r)
     ∙ if_commutes (has_slot slots row slot (held_locks a.tx)) (has_slot slots row slot (held_locks r.tx)) a.id r.id (slot_mark slots row slot start log)
 
-still_valid : (old new : Table) → IsTable old → shape_of new ≡ shape_of old → length new.entries ≡ length old.entries → IsTable new
+still_valid : (old new : Table) → IsTable old → table_shape new ≡ table_shape old → length new.entries ≡ length old.entries → IsTable new
 still_valid old new valid shape as_long =
     let rows : new.rows ≡ old.rows = ap (λ (s : Shape). s.rows) shape in
     let slots : new.slots ≡ old.slots = ap (λ (s : Shape). s.slots) shape in
@@ -130,7 +130,7 @@ least-same f g (suc n) same =
     let last : f (suc n) ≡ g (suc n) = same (suc n) (omega arith) in
     cc
 
-pub probe_stands : (t : Table) (lock : List ℕ) (start : ℕ) (log : List Record) → TableStandsFor t start log → probe_of t lock ≡ probed_mark (shape_of t) start log lock
+pub probe_stands : (t : Table) (lock : List ℕ) (start : ℕ) (log : List Record) → TableStandsFor t start log → probe_of t lock ≡ probed_mark (table_shape t) start log lock
 probe_stands t lock start log stands =
     let some_rows = stands.valid.some_rows in
     let some_slots = stands.valid.some_slots in
@@ -142,9 +142,9 @@ first_above-same : (p q : List ℕ → ℕ) (mark place : ℕ) (locks : List (Li
 first_above-same p q mark place [] same = refl
 first_above-same p q mark place (lock ∷ locks) same = rw (same lock, first_above-same p q mark (place + 1) locks same) refl
 
-pub conflict_stands : (t : Table) (tx : Transaction) (start : ℕ) (log : List Record) → TableStandsFor t start log → admission (shape_of t) start log tx ≡ conflict_of t tx
+pub conflict_stands : (t : Table) (tx : Transaction) (start : ℕ) (log : List Record) → TableStandsFor t start log → admission (table_shape t) start log tx ≡ conflict_of t tx
 conflict_stands t tx start log stands =
-    sym (first_above-same (probe_of t) (probed_mark (shape_of t) start log) tx.mark 0 (named_locks tx) (λ lock. probe_stands t lock start log stands))
+    sym (first_above-same (probe_of t) (probed_mark (table_shape t) start log) tx.mark 0 (named_locks tx) (λ lock. probe_stands t lock start log stands))
 
 else_none : (b : Bool) (r : Conflict) (u v w : Option Conflict) → (if b then Some r else u) ≡ None → (u ≡ None → v ≡ w) → (if b then Some r else v) ≡ w
 else_none true r u v w none rest = cc

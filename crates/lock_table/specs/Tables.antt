@@ -18,8 +18,8 @@ pub record IsTable (t : Table) : Type 0 where
   pub few_slots : t.slots ≤ 4096
   pub full : length t.entries ≡ t.rows * t.slots
 
-abbrev pub shape_of : Table → Shape
-shape_of t = record { rows = t.rows; slots = t.slots }
+abbrev pub table_shape : Table → Shape
+table_shape t = record { rows = t.rows; slots = t.slots }
 
 -- the entry of a slot in a row
 abbrev pub entry_of : Table → ℕ → ℕ → ℕ
@@ -42,7 +42,7 @@ conflict_of t tx = first_above (probe_of t) tx.mark 0 (named_locks tx)
 
 -- the entries of the locks' slots are raised to the id, and the others stay
 pub record AreRaised (id : ℕ) (locks : List (List ℕ)) (old new : Table) : Type 0 where
-  pub shape : shape_of new ≡ shape_of old
+  pub shape : table_shape new ≡ table_shape old
   pub as_long : length new.entries ≡ length old.entries
   pub each : (row slot : ℕ) → row < old.rows → slot < old.slots →
       entry_of new row slot ≡ (if has_slot old.slots row slot locks then max id (entry_of old row slot) else entry_of old row slot)

@@ -9,7 +9,5 @@
 
 mod hash;
 mod table;
-#[cfg(test)]
-mod tests;
 
 pub use table::{LockTable, LockedAt};

@@ -3,7 +3,7 @@ ghost use Rattle.tx_model.specs.declared.record.Record.{Record};
 ghost use Rattle.tx_model.specs.Transactions.{named_locks, held_locks};
 ghost use Rattle.tx_model.specs.Hashes.{slot_of};
 ghost use Rattle.tx_model.specs.Probes.{probed_mark, first_above, admission};
-ghost use Rattle.lock_table.specs.Tables.{shape_of, probe_of, conflict_of, TableStandsFor, AreRaised};
+ghost use Rattle.lock_table.specs.Tables.{table_shape, probe_of, conflict_of, TableStandsFor, AreRaised};
 
 use crate::hash::find_slot;
 use std::alloc::{AllocError, Global};
@@ -21,7 +21,7 @@ pub struct LockedAt {
 }
 
 /// A table of 1 to 8 rows with 1 to 4,096 slots each.
-#[derive(Debug, Drop)]
+#[derive(Drop)]
 pub struct LockTable {
     rows: u8,
     slots: u32,
@@ -29,13 +29,14 @@ pub struct LockTable {
 }
 
 impl Model for LockTable {
-    ghost use Rattle.lock_table.specs.Tables.{Table, IsTable};
+    ghost use Rattle.lock_table.specs.Tables.{Table};
+    ghost use Rattle.lock_table.specs.Layout.{table_by, IsLockTable};
 
     ghost Value = { Table };
 
-    ghost view = { λ t. record { rows = t.rows; slots = t.slots; entries = t.entries.items } };
+    ghost view = { table_by };
 
-    ghost invariant = { λ t. IsTable (record { rows = t.rows; slots = t.slots; entries = t.entries.items }) };
+    ghost invariant = { IsLockTable };
 }
 
 impl LockTable {
@@ -43,7 +44,7 @@ impl LockTable {
     pub fn new(alloc: Global, rows: u8, slots: u32, start: u64) -> Result<LockTable, AllocError>
         requires rows { (1 ≤ rows) × (rows ≤ 8) }
         requires slots { (1 ≤ slots) × (slots ≤ 4096) }
-        ensures shape { IfOk result (λ t. shape_of t ≡ record { rows = rows; slots = slots }) }
+        ensures shape { IfOk result (λ t. table_shape t ≡ record { rows = rows; slots = slots }) }
         ensures stands { IfOk result (λ t. TableStandsFor t start []) }
     {
         let entries = vec![in alloc; start; rows as usize * slots as usize]?;
@@ -56,7 +57,7 @@ impl LockTable {
 
     /// Sets all entries to `start`, so that nothing which was noted counts any more.
     pub fn reset(&mut self, start: u64)
-        ensures shape { shape_of self.new ≡ shape_of self.old }
+        ensures shape { table_shape self.new ≡ table_shape self.old }
         ensures stands { TableStandsFor self.new start [] }
     {
         self.entries.fill(start);
@@ -66,7 +67,7 @@ impl LockTable {
     pub fn probe<L: Ledger>(&self, lock: &Lock, steps: &mut Steps<L>) -> u64
         ensures value { result ≡ probe_of self.now lock.now }
         ensures stands { (start : ℕ) (log : List Record) → TableStandsFor self.now start log →
-            result ≡ probed_mark (shape_of self.now) start log lock.now }
+            result ≡ probed_mark (table_shape self.now) start log lock.now }
         ensures cost { steps.new ≡ steps.old + self.now.rows }
     {
         steps.tick();
@@ -86,9 +87,9 @@ impl LockTable {
 
         // The same over each log that the table stands for.
         ensures stands_ok { OnOk result ((start : ℕ) (log : List Record) → TableStandsFor self.now start log →
-            admission (shape_of self.now) start log tx.now ≡ None) }
+            admission (table_shape self.now) start log tx.now ≡ None) }
         ensures stands_err { IfErr result (λ at. (start : ℕ) (log : List Record) → TableStandsFor self.now start log →
-            admission (shape_of self.now) start log tx.now ≡ Some (record { place = at.place; mark = at.mark })) }
+            admission (table_shape self.now) start log tx.now ≡ Some (record { place = at.place; mark = at.mark })) }
 
         ensures place { IfErr result (λ at. at.place < length (named_locks tx.now)) }
         ensures cost { steps.new ≤ steps.old + self.now.rows * length (named_locks tx.now) }

@@ -1,6 +1,9 @@
+pub mod Results
 pub mod Choosing
 pub mod Counts
+pub mod Waits
 pub mod Helds
 pub mod Parts
 pub mod Appends
+pub mod Answering
 pub mod Messages

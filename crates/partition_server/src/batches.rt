@@ -16,8 +16,5 @@ pub(crate) fn batch_after(alloc: Global, log: &[Record], from: u64) -> Result<Ba
     for entry in rest {
         records.push(entry.copy(alloc)?)?;
     }
-    match Batch::new(records) {
-        Ok(batch) => Ok(batch),
-        Err(_) => unreachable!(),
-    }
+    Ok(Batch::of_records(records))
 }

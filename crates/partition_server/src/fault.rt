@@ -53,7 +53,20 @@ impl AppendFault {
 }
 
 impl ReadFault {
+    ghost use Rattle.std.specs.Prelude.{◌≢◌, Some};
     ghost use Rattle.partition_server.specs.Faults.{read_refusal_of};
+
+    // The fault that tells a refusal.
+    pub(crate) fn of(refusal: ReadRefusal) -> ReadFault
+        ensures told { read_refusal_of result ≡ Some refusal }
+        ensures memory { result ≢ ReadFault.Memory }
+    {
+        match refusal {
+            ReadRefusal::NotRunning(phase) => ReadFault::NotRunning(phase),
+            ReadRefusal::BadId => ReadFault::BadId,
+            ReadRefusal::NotYet(committed) => ReadFault::NotYet(committed),
+        }
+    }
 
     /// What a client is told. There is nothing to tell of want of memory.
     pub fn refusal(self) -> Option<ReadRefusal>

@@ -6,12 +6,11 @@ mod fault;
 mod quorums;
 mod recovery;
 mod server;
-#[cfg(test)]
-mod tests;
 mod uncounted;
 mod waiting;
 
 pub use fault::{AppendFault, ReadFault};
 pub use recovery::recovery_choice;
 pub use server::Server;
+pub use uncounted::append_uncounted;
 use waiting::Waiting;

@@ -54,10 +54,10 @@ pub(crate) fn phase_reported(choice: Option<Report>, phase: Phase) -> Phase
 }
 
 // The phase once there are so many records of the chosen log.
-pub(crate) fn phase_fetched(length: u64, base: u64) -> Phase
-    ensures { result ≡ (if length == base then Phase.Repairing else Phase.Fetching) }
+pub(crate) fn phase_fetched(length: u64, chosen_len: u64) -> Phase
+    ensures { result ≡ (if length == chosen_len then Phase.Repairing else Phase.Fetching) }
 {
-    if length == base {
+    if length == chosen_len {
         Phase::Repairing
     } else {
         Phase::Fetching

@@ -1,7 +1,8 @@
 ghost use Rattle.std.specs.Prelude.{◌≡◌, ◌≤◌, length, IfOk};
 ghost use Rattle.tx_model.specs.Records.{IsPlace};
-ghost use Rattle.proto_model.specs.Servers.{idle_server, drawn, base, chosen, commit_mark};
-ghost use Rattle.partition_server.specs.Held.{setting_of, state_of};
+ghost use Rattle.tx_model.specs.Spelling.{IsCount};
+ghost use Rattle.proto_model.specs.Servers.{idle_server, drawn, chosen_len, chosen, commit_mark};
+ghost use Rattle.partition_server.specs.Held.{config_of, state_of};
 
 mod appends;
 mod reads;
@@ -10,7 +11,7 @@ mod requests;
 mod sending;
 
 use crate::Waiting;
-use crate::quorums::commit_mark;
+use crate::quorums::Acks;
 use crate::recovery::recovery_choice;
 use lock_table::LockTable;
 use proto_model::{Phase, Report};
@@ -35,49 +36,22 @@ pub struct Server {
     reported: [bool; 8],
     staged: [u64; 8],
     lows: [u64; 8],
-    adopted: [bool; 8],
-    acked: [u64; 8],
+    acks: Acks,
+    // In the order of their ids.
     waiting: Vec<Waiting>,
     // While the server is running, of the log from the recovered mark on.
     locks: LockTable,
 }
 
 impl Model for Server {
-    ghost use Rattle.partition_server.specs.Held.{Held, IsHeld};
+    ghost use Rattle.partition_server.specs.Held.{Held};
+    ghost use Rattle.partition_server.specs.Layout.{held_by, IsServer};
 
     ghost Value = { Held };
 
-    ghost view = { λ s. record {
-      nodes = s.nodes;
-      rows = s.rows;
-      slots = s.slots;
-      phase = s.phase;
-      session = s.session;
-      log = s.log.items;
-      reports = s.reports.items;
-      reported = s.reported;
-      staged = s.staged;
-      lows = s.lows;
-      adopted = s.adopted;
-      acked = s.acked;
-      waiting = s.waiting.items;
-    } };
+    ghost view = { held_by };
 
-    ghost invariant = { λ s. IsHeld (record {
-      nodes = s.nodes;
-      rows = s.rows;
-      slots = s.slots;
-      phase = s.phase;
-      session = s.session;
-      log = s.log.items;
-      reports = s.reports.items;
-      reported = s.reported;
-      staged = s.staged;
-      lows = s.lows;
-      adopted = s.adopted;
-      acked = s.acked;
-      waiting = s.waiting.items;
-    }) s.locks };
+    ghost invariant = { IsServer };
 }
 
 impl Server {
@@ -90,7 +64,7 @@ impl Server {
         requires some_slots { 1 ≤ slots }
         requires few_slots { slots ≤ 4096 }
         ensures value { IfOk result (λ server. state_of server ≡ idle_server) }
-        ensures setting { IfOk result (λ server. setting_of server ≡ record { nodes = nodes; rows = rows; slots = slots }) }
+        ensures setting { IfOk result (λ server. config_of server ≡ record { nodes = nodes; rows = rows; slots = slots }) }
     {
         let locks = LockTable::new(alloc, rows, slots, 0)?;
         Ok(Server {
@@ -105,8 +79,10 @@ impl Server {
             reported: [false; 8],
             staged: [0; 8],
             lows: [0; 8],
-            adopted: [false; 8],
-            acked: [0; 8],
+            acks: Acks {
+                adopted: [false; 8],
+                acked: [0; 8],
+            },
             waiting: Vec::new(alloc),
             locks,
         })
@@ -134,17 +110,18 @@ impl Server {
 
     /// The length that a quorum holds.
     pub fn committed(&self) -> u64
-        ensures value { result ≡ commit_mark (setting_of self.now) (state_of self.now) }
+        ensures value { result ≡ commit_mark (config_of self.now) (state_of self.now) }
         ensures within { result ≤ length self.now.log }
+        ensures count { IsCount result }
     {
-        commit_mark(self.nodes, &self.adopted, &self.acked)
+        self.acks.mark(self.nodes)
     }
 
     /// The server won a session, and forgets what it knew of an earlier one. Requests that wait are not answered.
     pub fn drew(&mut self, session: u64)
         requires { IsPlace session }
         ensures value { state_of self.new ≡ drawn session }
-        ensures setting { setting_of self.new ≡ setting_of self.old }
+        ensures setting { config_of self.new ≡ config_of self.old }
     {
         self.phase = Phase::Opening;
         self.session = session;
@@ -153,21 +130,23 @@ impl Server {
         self.reported = [false; 8];
         self.staged = [0; 8];
         self.lows = [0; 8];
-        self.adopted = [false; 8];
-        self.acked = [0; 8];
+        self.acks = Acks {
+            adopted: [false; 8],
+            acked: [0; 8],
+        };
         self.waiting.clear();
     }
 
     // The chosen report, once a quorum reported.
     fn chosen(&self) -> Option<Report>
-        ensures { result ≡ chosen (setting_of self.now) (state_of self.now) }
+        ensures { result ≡ chosen (config_of self.now) (state_of self.now) }
     {
         recovery_choice(self.nodes, &self.reports)
     }
 
     // The length of the chosen log.
-    fn base(&self) -> u64
-        ensures { result ≡ base (setting_of self.now) (state_of self.now) }
+    fn chosen_len(&self) -> u64
+        ensures { result ≡ chosen_len (config_of self.now) (state_of self.now) }
     {
         match self.chosen() {
             Some(report) => report.length,

@@ -1,5 +1,6 @@
-ghost use Rattle.std.specs.Prelude.{◌≡◌, map, nat_lt, IfOk};
-ghost use Rattle.proto_model.specs.Servers.{is_due, waits_on};
+ghost use Rattle.std.specs.Prelude.{◌≡◌, ◌≢◌, ◌≤◌, ℕ, [], map, drop, length, IfOk, OnErr};
+ghost use Rattle.proto_model.specs.Servers.{is_due};
+ghost use Rattle.partition_server.specs.Waits.{WaitInOrder};
 ghost use Rattle.partition_server.specs.Answers.{addressed};
 
 use proto_model::FromServer;
@@ -7,7 +8,7 @@ use std::alloc::{AllocError, Global};
 use std::marker::Model;
 
 /// A client's request that waits for its record to be committed.
-#[derive(Clone, Copy, Debug)]
+#[derive(Clone, Copy)]
 pub struct Waiting {
     id: u64,
     client: u64,
@@ -55,33 +56,35 @@ impl Waiting {
     }
 }
 
-// The answers to the requests whose records are committed at a mark, each with its client's number.
+// The answers to the requests whose records are committed at a mark, each with its client's number. Since the ids rise,
+// these requests are the front.
 pub(crate) fn due(
     alloc: Global,
     waiting: &[Waiting],
     mark: u64,
 ) -> Result<Vec<(u64, FromServer)>, AllocError>
-    ensures { IfOk result (λ due. due.items ≡ map addressed (is_due mark waiting.now)) }
+    requires { (last : ℕ) × WaitInOrder 0 last waiting.now }
+    ensures ok { IfOk result (λ due. due.items ≡ map addressed (is_due mark waiting.now)) }
+    ensures count { IfOk result (λ due. length due.items ≡ length (is_due mark waiting.now)) }
+    ensures memory { OnErr result (is_due mark waiting.now ≢ []) }
 {
     let mut due = Vec::new(alloc);
     for request in waiting {
-        if request.id() <= mark {
-            due.push((
-                request.client(),
-                FromServer::Committed(request.request(), request.id()),
-            ))?;
+        if request.id() > mark {
+            return Ok(due);
         }
+        due.push((
+            request.client(),
+            FromServer::Committed(request.request(), request.id()),
+        ))?;
     }
     Ok(due)
 }
 
-// Drops the requests whose records are committed at a mark.
-pub(crate) fn settle(waiting: &mut Vec<Waiting>, mark: u64)
-    ensures { waiting.new.items ≡ waits_on mark waiting.old.items }
+// Drops so many requests at the front.
+pub(crate) fn drop_front(waiting: &mut Vec<Waiting>, count: usize)
+    requires { count ≤ length waiting.old.items }
+    ensures { waiting.new.items ≡ drop count waiting.old.items }
 {
-    waiting.retain(
-        |request: &Waiting| -> bool
-            ensures { result ≡ nat_lt mark request.now.id }
-        { request.id() > mark },
-    );
+    waiting.drain(..count);
 }

@@ -16,7 +16,7 @@ use Rattle.proto_model.specs.declared.message.FromNode.{FromNode}
 use Rattle.proto_model.specs.declared.message.FromNode.TheVariants.{Opened, Stale, Unopened, Records, Staged, StageAt, Adopted, Acked, Gap, NotAdopted, LowSet}
 use Rattle.proto_model.specs.Tables.{put}
 use Rattle.proto_model.specs.Quorums.{count, quorum, reached}
-use Rattle.proto_model.specs.Servers.{Setting, ServerState, server_after, received, is_heard, after_report, reported_by, settled, after_records, takes_records, with_fetched, after_staged, after_ack, takes_ack, acked_by, begun, answered, after_low, after_stale, base, chosen, commit_mark, holds, is_of, in_repair, is_active}
+use Rattle.proto_model.specs.Servers.{Config, ServerState, server_after, received, is_heard, after_report, reported_by, with_choice, after_records, takes_records, with_fetched, after_staged, after_ack, takes_ack, acked_by, begun, answered, after_low, after_stale, chosen_len, chosen, commit_mark, holds, is_of, has_fetched, is_active}
 use Rattle.proto_model.specs.Sending.{message_in, repair_message, append_message, chosen_message}
 use Rattle.proto_model.specs.Validity.{IsValidToNode}
 use Rattle.proto_model.specs.Sanity.{IsValidServer, MessagesAreValid, EveryReceiveIsSane}
@@ -35,24 +35,24 @@ reached_within n reaches (suc k) =
     let rest = reached_within n reaches k in
     either (λ x. x ≤ suc k) (nat_le (quorum n) (count (reaches (suc k)) n)) (suc k) (reached n reaches k) (omega arith) (omega (arith, rest))
 
-committed_count : (c : Setting) (sv : ServerState) → RiseByOne 1 sv.log → IsCount (commit_mark c sv)
+committed_count : (c : Config) (sv : ServerState) → RiseByOne 1 sv.log → IsCount (commit_mark c sv)
 committed_count c sv rise = let a = reached_within c.nodes (holds sv) (length sv.log) in let b = log_count sv.log rise in omega (arith, a, b)
 
-append_valid : (c : Setting) (sv : ServerState) (i : ℕ) → IsPlace sv.session → RiseByOne 1 sv.log → IsValidOrNone (append_message c sv i)
+append_valid : (c : Config) (sv : ServerState) (i : ℕ) → IsPlace sv.session → RiseByOne 1 sv.log → IsValidOrNone (append_message c sv i)
 append_valid c sv i place rise =
     if_each IsValidOrNone (nat_lt (sv.acked i) (length sv.log)) _ _
     (λ is. let less : sv.acked i < length sv.log = grind (arith, nat_tests) in (place, part_of_log sv.log (sv.acked i) 8 rise less (omega arith) (omega arith)))
     (λ _. either IsValidOrNone (nat_lt (sv.low i) (commit_mark c sv)) _ _ (place, committed_count c sv rise) tt)
 
-repair_valid : (c : Setting) (sv : ServerState) (i : ℕ) → IsPlace sv.session → RiseByOne 1 sv.log → base c sv ≤ length sv.log → base c sv < 2 ^ 48 → IsValidOrNone (repair_message c sv i)
+repair_valid : (c : Config) (sv : ServerState) (i : ℕ) → IsPlace sv.session → RiseByOne 1 sv.log → chosen_len c sv ≤ length sv.log → chosen_len c sv < 2 ^ 48 → IsValidOrNone (repair_message c sv i)
 repair_valid c sv i place rise within small =
-    if_each IsValidOrNone (nat_lt (sv.staged i) (base c sv)) _ _
-    (λ is. let less : sv.staged i < base c sv = grind (arith, nat_tests) in
-    let len : length (take (base c sv) sv.log) ≡ base c sv = length-take-le (base c sv) sv.log within in
-    (place, part_of_log (take (base c sv) sv.log) (sv.staged i) 8 (RiseByOne-take 1 sv.log (base c sv) rise) (omega (arith, less, len)) (omega arith) (omega arith)))
+    if_each IsValidOrNone (nat_lt (sv.staged i) (chosen_len c sv)) _ _
+    (λ is. let less : sv.staged i < chosen_len c sv = grind (arith, nat_tests) in
+    let len : length (take (chosen_len c sv) sv.log) ≡ chosen_len c sv = length-take-le (chosen_len c sv) sv.log within in
+    (place, part_of_log (take (chosen_len c sv) sv.log) (sv.staged i) 8 (RiseByOne-take 1 sv.log (chosen_len c sv) rise) (omega (arith, less, len)) (omega arith) (omega arith)))
     (λ _. (place, small))
 
-chosen_valid : (c : Setting) (sv : ServerState) (i : ℕ) → IsPlace sv.session → RiseByOne 1 sv.log → base c sv ≤ length sv.log → base c sv < 2 ^ 48 → IsValidOrNone (chosen_message c sv i)
+chosen_valid : (c : Config) (sv : ServerState) (i : ℕ) → IsPlace sv.session → RiseByOne 1 sv.log → chosen_len c sv ≤ length sv.log → chosen_len c sv < 2 ^ 48 → IsValidOrNone (chosen_message c sv i)
 chosen_valid c sv i place rise within small =
     either IsValidOrNone (not (sv.reported i)) (Some (Open sv.session)) (if sv.adopted i then append_message c sv i else repair_message c sv i) place
     (either IsValidOrNone (sv.adopted i) (append_message c sv i) (repair_message c sv i) (append_valid c sv i place rise) (repair_valid c sv i place rise within small))
@@ -60,16 +60,16 @@ chosen_valid c sv i place rise within small =
 fetch_valid : (s last all : ℕ) → IsPlace s → last < all → all < 2 ^ 48 → IsValidToNode (Fetch s (last + 1) (min 8 (all - last)))
 fetch_valid s last all place less small = (place, record { some = omega arith; within = omega arith }, record { some = omega arith; few = omega arith })
 
-message_valid : (phase : Phase) (c : Setting) (sv : ServerState) (i : ℕ) → sv.phase ≡ phase → IsValidServer c sv → IsValidOrNone (message_in phase c sv i)
+message_valid : (phase : Phase) (c : Config) (sv : ServerState) (i : ℕ) → sv.phase ≡ phase → IsValidServer c sv → IsValidOrNone (message_in phase c sv i)
 message_valid Idle c sv i is valid = tt
 message_valid Opening c sv i is valid = either IsValidOrNone (sv.reported i) None (Some (Open sv.session)) tt (valid.session (ap is_active is))
 message_valid Fetching c sv i is valid =
     let place = valid.session (ap is_active is) in
-    let fetch = Fetch sv.session (length sv.log + 1) (min 8 (base c sv - length sv.log)) in
+    let fetch = Fetch sv.session (length sv.log + 1) (min 8 (chosen_len c sv - length sv.log)) in
     either IsValidOrNone (not (sv.reported i)) (Some (Open sv.session)) (if is_of i (chosen c sv) then Some fetch else None) place
-    (either IsValidOrNone (is_of i (chosen c sv)) (Some fetch) None (fetch_valid sv.session (length sv.log) (base c sv) place (valid.fetching is) valid.chosen) tt)
-message_valid Repairing c sv i is valid = chosen_valid c sv i (valid.session (ap is_active is)) valid.log (valid.repairing (ap in_repair is)) valid.chosen
-message_valid Running c sv i is valid = chosen_valid c sv i (valid.session (ap is_active is)) valid.log (valid.repairing (ap in_repair is)) valid.chosen
+    (either IsValidOrNone (is_of i (chosen c sv)) (Some fetch) None (fetch_valid sv.session (length sv.log) (chosen_len c sv) place (valid.fetching is) valid.chosen) tt)
+message_valid Repairing c sv i is valid = chosen_valid c sv i (valid.session (ap is_active is)) valid.log (valid.repairing (ap has_fetched is)) valid.chosen
+message_valid Running c sv i is valid = chosen_valid c sv i (valid.session (ap is_active is)) valid.log (valid.repairing (ap has_fetched is)) valid.chosen
 message_valid (Closed p) c sv i is valid = tt
 
 pub messages : MessagesAreValid
@@ -110,7 +110,7 @@ reached_more n f g (suc k) m less more =
     (λ is. let all = count_more (f (suc k)) (g (suc k)) n (more (suc k)) in reached_at_least n g m (suc k) less (grind (arith, nat_tests, all)))
     (λ _. reached_more n f g k m (omega arith) more)
 
-onward_mark : (c : Setting) (sv x : ServerState) → IsOnward sv x → commit_mark c sv ≤ commit_mark c x
+onward_mark : (c : Config) (sv x : ServerState) → IsOnward sv x → commit_mark c sv ≤ commit_mark c x
 onward_mark c sv x on = reached_more c.nodes (holds sv) (holds x) (length sv.log) (length x.log) on.log on.holds
 
 onward_same : (sv : ServerState) → IsOnward sv sv
@@ -129,28 +129,28 @@ holds_acked sv j len k i is = one (i == j) refl
         let here : nat_le k (sv.acked j) ≡ true = subst P same old in
         grind (arith, nat_tests, here)
 
-ack_onward : (c : Setting) (sv : ServerState) (i len : ℕ) → IsOnward sv (after_ack c sv i len)
+ack_onward : (c : Config) (sv : ServerState) (i len : ℕ) → IsOnward sv (after_ack c sv i len)
 ack_onward c sv i len =
     either (IsOnward sv) (takes_ack c sv i len) (answered c (begun c (acked_by sv i len))) sv
     (record { session = refl; log = omega arith; holds = λ k j is. holds_acked sv i len k j is }) (onward_same sv)
 
-report_onward : (c : Setting) (sv : ServerState) (r : Report) → IsOnward sv (after_report c sv r)
+report_onward : (c : Config) (sv : ServerState) (r : Report) → IsOnward sv (after_report c sv r)
 report_onward c sv r =
-    either (IsOnward sv) (not (sv.reported r.node) && nat_lt r.adopted sv.session) (settled c (reported_by sv r)) sv
+    either (IsOnward sv) (not (sv.reported r.node) && nat_lt r.adopted sv.session) (with_choice c (reported_by sv r)) sv
     (record { session = refl; log = omega arith; holds = λ k i is. is }) (onward_same sv)
 
-records_onward : (c : Setting) (sv : ServerState) (i : ℕ) (batch : List Record) → IsOnward sv (after_records c sv i batch)
+records_onward : (c : Config) (sv : ServerState) (i : ℕ) (batch : List Record) → IsOnward sv (after_records c sv i batch)
 records_onward c sv i batch =
-    let log = sv.log ++ take (base c sv - length sv.log) batch in
-    either (IsOnward sv) (takes_records c sv i (first_id batch)) (with_fetched (base c sv) sv log) sv
-    (record { session = refl; log = omega (arith, length-append sv.log (take (base c sv - length sv.log) batch)); holds = λ k j is. is }) (onward_same sv)
+    let log = sv.log ++ take (chosen_len c sv - length sv.log) batch in
+    either (IsOnward sv) (takes_records c sv i (first_id batch)) (with_fetched (chosen_len c sv) sv log) sv
+    (record { session = refl; log = omega (arith, length-append sv.log (take (chosen_len c sv - length sv.log) batch)); holds = λ k j is. is }) (onward_same sv)
 
 staged_onward : (sv : ServerState) (i upto : ℕ) → IsOnward sv (after_staged sv i upto)
 staged_onward sv i upto =
     either (IsOnward sv) (sv.reported i && not (sv.adopted i)) (record sv { staged = put sv.staged i upto }) sv
     (record { session = refl; log = omega arith; holds = λ k j is. is }) (onward_same sv)
 
-low_onward : (c : Setting) (sv : ServerState) (i low : ℕ) → IsOnward sv (after_low c sv i low)
+low_onward : (c : Config) (sv : ServerState) (i low : ℕ) → IsOnward sv (after_low c sv i low)
 low_onward c sv i low =
     either (IsOnward sv) (sv.adopted i && nat_le low (commit_mark c sv)) (record sv { low = put sv.low i (max (sv.low i) low) }) sv
     (record { session = refl; log = omega arith; holds = λ k j is. is }) (onward_same sv)
@@ -160,7 +160,7 @@ stale_onward sv s p =
     either (IsOnward sv) (nat_lt s p) (record sv { phase = Closed p; waiting = [] }) sv
     (record { session = refl; log = omega arith; holds = λ k j is. is }) (onward_same sv)
 
-received_onward : (c : Setting) (sv : ServerState) (i : ℕ) (m : FromNode) → IsOnward sv (received c sv i m)
+received_onward : (c : Config) (sv : ServerState) (i : ℕ) (m : FromNode) → IsOnward sv (received c sv i m)
 received_onward c sv i (Opened s adopted low len) = report_onward c sv (record { node = i; adopted = adopted; low = low; length = len })
 received_onward c sv i (Stale s p) = stale_onward sv s p
 received_onward c sv i (Unopened s p) = onward_same sv

@@ -2,9 +2,9 @@ pub mod Tables
 pub mod Quorums
 pub mod Choices
 pub mod Replicas
+pub mod Crashes
 pub mod Servers
 pub mod Sending
 pub mod Serving
-pub mod Clients
 pub mod Validity
 pub mod Sanity

@@ -42,16 +42,20 @@ staged_after r s batch =
 abbrev pub adopted_after : ReplicaState → ℕ → ℕ → ReplicaState
 adopted_after r s len =
     if r.adopted == s then r
-    else if len + 1 == next_staged r then record r { adopted = s; log = take r.low r.log ++ r.staged; staged = [] } else r
+    else if len + 1 == next_staged r
+    then record r { adopted = s; log = take r.low r.log ++ r.staged; staged = [] }
+    else r
 
 abbrev pub appended_after : ReplicaState → ℕ → List Record → ReplicaState
 appended_after r s batch =
-    if r.adopted == s then (if nat_lt (length r.log + 1) (first_id batch) then r else record r { log = grown r.log batch })
+    if r.adopted == s
+    then (if nat_lt (length r.log + 1) (first_id batch) then r else record r { log = grown r.log batch })
     else r
 
 abbrev pub lowered_after : ReplicaState → ℕ → ℕ → ReplicaState
 lowered_after r s k =
-    if r.adopted == s then (if nat_lt (length r.log) k then r else if nat_le k r.low then r else record r { low = k })
+    if r.adopted == s
+    then (if nat_lt (length r.log) k then r else if nat_le k r.low then r else record r { low = k })
     else r
 
 -- the effect, unless the session is another one than the promised one
@@ -76,11 +80,14 @@ gated r s reply =
 
 -- whether there are records to send: from an id of the log on, 1 to 8
 abbrev pub has_records : ReplicaState → ℕ → ℕ → Bool
-has_records r from max = nat_le 1 from && (nat_le from (length r.log) && (nat_le 1 max && nat_le max 8))
+has_records r from max =
+    nat_le 1 from && (nat_le from (length r.log) && (nat_le 1 max && nat_le max 8))
 
 abbrev pub fetch_reply : ReplicaState → ℕ → ℕ → ℕ → FromNode
 fetch_reply r s from max =
-    if has_records r from max then Records s (take max (drop (from - 1) r.log)) else Gap s (length r.log)
+    if has_records r from max
+    then Records s (take max (drop (from - 1) r.log))
+    else Gap s (length r.log)
 
 abbrev pub stage_reply : ReplicaState → ℕ → List Record → FromNode
 stage_reply r s batch =
@@ -96,17 +103,21 @@ adopt_reply r s len =
 abbrev pub append_reply : ReplicaState → ℕ → List Record → FromNode
 append_reply r s batch =
     if r.adopted == s then
-    (if nat_lt (length r.log + 1) (first_id batch) then Gap s (length r.log) else Acked s (length (grown r.log batch)))
+    (if nat_lt (length r.log + 1) (first_id batch)
+    then Gap s (length r.log)
+    else Acked s (length (grown r.log batch)))
     else NotAdopted s r.adopted
 
 abbrev pub low_reply : ReplicaState → ℕ → ℕ → FromNode
 low_reply r s k =
     if r.adopted == s then
-    (if nat_lt (length r.log) k then Gap s (length r.log) else if nat_le k r.low then LowSet s r.low else LowSet s k)
+    (if nat_lt (length r.log) k then Gap s (length r.log)
+    else if nat_le k r.low then LowSet s r.low else LowSet s k)
     else NotAdopted s r.adopted
 
 abbrev pub replica_reply : ReplicaState → ToNode → FromNode
-replica_reply r (Open s) = if nat_lt s r.promised then Stale s r.promised else Opened s r.adopted r.low (length r.log)
+replica_reply r (Open s) =
+    if nat_lt s r.promised then Stale s r.promised else Opened s r.adopted r.low (length r.log)
 replica_reply r (Fetch s from max) = gated r s (fetch_reply r s from max)
 replica_reply r (Stage s batch) = gated r s (stage_reply r s batch)
 replica_reply r (Adopt s len) = gated r s (adopt_reply r s len)

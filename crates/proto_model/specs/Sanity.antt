@@ -7,7 +7,7 @@ use Rattle.proto_model.specs.declared.message.ToNode.{ToNode}
 use Rattle.proto_model.specs.declared.message.ToNode.TheVariants.{Open, Fetch, Stage, Adopt, Append, Low}
 use Rattle.proto_model.specs.declared.message.FromNode.{FromNode}
 use Rattle.proto_model.specs.Replicas.{ReplicaState, replica_after, replica_reply}
-use Rattle.proto_model.specs.Servers.{Setting, ServerState, base, commit_mark, in_repair, is_active, server_after, session_of}
+use Rattle.proto_model.specs.Servers.{Config, ServerState, chosen_len, commit_mark, has_fetched, is_active, server_after, session_of}
 use Rattle.proto_model.specs.Sending.{next_message}
 use Rattle.proto_model.specs.Validity.{IsValidToNode, IsValidFromNode}
 
@@ -50,26 +50,29 @@ EveryStepIsSane = (r : ReplicaState) (m : ToNode) → IsSaneStep r m
 
 -- a valid replica answers a valid message by a valid reply
 abbrev pub RepliesAreValid : Type 0
-RepliesAreValid = (r : ReplicaState) (m : ToNode) → IsValidReplica r → IsValidToNode m → IsValidFromNode (replica_reply r m)
+RepliesAreValid = (r : ReplicaState) (m : ToNode) →
+    IsValidReplica r → IsValidToNode m → IsValidFromNode (replica_reply r m)
 
 -- ---- servers
 
 -- a server whose numbers and records are in the ranges of the formats
-pub record IsValidServer (c : Setting) (sv : ServerState) : Type 0 where
+pub record IsValidServer (c : Config) (sv : ServerState) : Type 0 where
   pub session : is_active sv.phase ≡ true → IsPlace sv.session
   pub log : RiseByOne 1 sv.log
-  pub fetching : sv.phase ≡ Fetching → length sv.log < base c sv
-  pub chosen : base c sv < 2 ^ 48
-  pub repairing : in_repair sv.phase ≡ true → base c sv ≤ length sv.log
+  pub fetching : sv.phase ≡ Fetching → length sv.log < chosen_len c sv
+  pub chosen : chosen_len c sv < 2 ^ 48
+  pub repairing : has_fetched sv.phase ≡ true → chosen_len c sv ≤ length sv.log
 
 -- a valid server sends valid messages
 abbrev pub MessagesAreValid : Type 0
-MessagesAreValid = (c : Setting) (sv : ServerState) (node : ℕ) (m : ToNode) → IsValidServer c sv → next_message c sv node ≡ Some m → IsValidToNode m
+MessagesAreValid = (c : Config) (sv : ServerState) (node : ℕ) (m : ToNode) →
+    IsValidServer c sv → next_message c sv node ≡ Some m → IsValidToNode m
 
 -- a reply leaves the session, and the commit mark doesn't fall, also where it closes the server
-pub record IsSaneReceive (c : Setting) (sv : ServerState) (node : ℕ) (m : FromNode) : Type 0 where
+pub record IsSaneReceive (c : Config) (sv : ServerState) (node : ℕ) (m : FromNode) : Type 0 where
   pub session : (server_after c sv node m).session ≡ sv.session
   pub committed : commit_mark c sv ≤ commit_mark c (server_after c sv node m)
 
 abbrev pub EveryReceiveIsSane : Type 0
-EveryReceiveIsSane = (c : Setting) (sv : ServerState) (node : ℕ) (m : FromNode) → IsSaneReceive c sv node m
+EveryReceiveIsSane = (c : Config) (sv : ServerState) (node : ℕ) (m : FromNode) →
+    IsSaneReceive c sv node m

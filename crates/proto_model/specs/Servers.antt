@@ -12,7 +12,7 @@ use Rattle.proto_model.specs.Quorums.{count, quorum, reached}
 use Rattle.proto_model.specs.Choices.{recovery_choice}
 
 -- what doesn't change: how many storage nodes there are, and the rows and slots of the lock table
-pub record Setting : Type 0 where
+pub record Config : Type 0 where
   pub nodes : ℕ
   pub rows : ℕ
   pub slots : ℕ
@@ -62,19 +62,19 @@ abbrev pub length_of : Option Report → ℕ
 length_of None = 0
 length_of (Some r) = r.length
 
-abbrev pub chosen : Setting → ServerState → Option Report
+abbrev pub chosen : Config → ServerState → Option Report
 chosen c sv = recovery_choice (quorum c.nodes) sv.reports
 
 -- the length of the chosen log
-abbrev pub base : Setting → ServerState → ℕ
-base c sv = length_of (chosen c sv)
+abbrev pub chosen_len : Config → ServerState → ℕ
+chosen_len c sv = length_of (chosen c sv)
 
 -- the node has adopted, and acknowledged k or more
 abbrev pub holds : ServerState → ℕ → ℕ → Bool
 holds sv k i = sv.adopted i && nat_le k (sv.acked i)
 
 -- the greatest length that a quorum holds, else 0
-abbrev pub commit_mark : Setting → ServerState → ℕ
+abbrev pub commit_mark : Config → ServerState → ℕ
 commit_mark c sv = reached c.nodes (holds sv) (length sv.log)
 
 -- ---- Opened: the report of a quorum's last node fixes the choice
@@ -95,12 +95,12 @@ abbrev pub phase_reported : Option Report → Phase → Phase
 phase_reported choice Opening = phase_of_choice choice
 phase_reported choice phase = phase
 
-abbrev pub settled : Setting → ServerState → ServerState
-settled c sv = record sv { phase = phase_reported (chosen c sv) sv.phase }
+abbrev pub with_choice : Config → ServerState → ServerState
+with_choice c sv = record sv { phase = phase_reported (chosen c sv) sv.phase }
 
-abbrev pub after_report : Setting → ServerState → Report → ServerState
+abbrev pub after_report : Config → ServerState → Report → ServerState
 after_report c sv r =
-    if not (sv.reported r.node) && nat_lt r.adopted sv.session then settled c (reported_by sv r) else sv
+    if not (sv.reported r.node) && nat_lt r.adopted sv.session then with_choice c (reported_by sv r) else sv
 
 -- ---- Records: the chosen node's records follow
 
@@ -112,16 +112,16 @@ abbrev pub is_fetching : Phase → Bool
 is_fetching Fetching = true
 is_fetching _ = false
 
-abbrev pub takes_records : Setting → ServerState → ℕ → ℕ → Bool
+abbrev pub takes_records : Config → ServerState → ℕ → ℕ → Bool
 takes_records c sv i first = is_fetching sv.phase && (is_of i (chosen c sv) && first == length sv.log + 1)
 
 abbrev pub with_fetched : ℕ → ServerState → List Record → ServerState
-with_fetched base sv log = record sv { log = log; phase = if length log == base then Repairing else Fetching }
+with_fetched chosen_len sv log = record sv { log = log; phase = if length log == chosen_len then Repairing else Fetching }
 
-abbrev pub after_records : Setting → ServerState → ℕ → List Record → ServerState
+abbrev pub after_records : Config → ServerState → ℕ → List Record → ServerState
 after_records c sv i batch =
     if takes_records c sv i (first_id batch)
-    then with_fetched (base c sv) sv (sv.log ++ take (base c sv - length sv.log) batch) else sv
+    then with_fetched (chosen_len c sv) sv (sv.log ++ take (chosen_len c sv - length sv.log) batch) else sv
 
 -- ---- Staged and StageAt
 
@@ -131,19 +131,19 @@ after_staged sv i upto =
 
 -- ---- Adopted and Acked
 
-abbrev pub in_repair : Phase → Bool
-in_repair Repairing = true
-in_repair Running = true
-in_repair _ = false
+abbrev pub has_fetched : Phase → Bool
+has_fetched Repairing = true
+has_fetched Running = true
+has_fetched _ = false
 
-abbrev pub takes_ack : Setting → ServerState → ℕ → ℕ → Bool
-takes_ack c sv i len = in_repair sv.phase && (sv.reported i && (nat_le (base c sv) len && nat_le len (length sv.log)))
+abbrev pub takes_ack : Config → ServerState → ℕ → ℕ → Bool
+takes_ack c sv i len = has_fetched sv.phase && (sv.reported i && (nat_le (chosen_len c sv) len && nat_le len (length sv.log)))
 
 abbrev pub acked_by : ServerState → ℕ → ℕ → ServerState
 acked_by sv i len = record sv { adopted = put sv.adopted i true; acked = put sv.acked i (max (sv.acked i) len) }
 
 -- once a quorum adopted, the server is running
-abbrev pub begun : Setting → ServerState → ServerState
+abbrev pub begun : Config → ServerState → ServerState
 begun c sv = record sv { phase = if nat_le (quorum c.nodes) (count sv.adopted c.nodes) then Running else sv.phase }
 
 -- the requests that wait on, and those that don't
@@ -153,15 +153,15 @@ waits_on mark waiting = filter (λ w. nat_lt mark w.id) waiting
 abbrev pub is_due : ℕ → List Waiting → List Waiting
 is_due mark waiting = filter (λ w. nat_le w.id mark) waiting
 
-abbrev pub answered : Setting → ServerState → ServerState
+abbrev pub answered : Config → ServerState → ServerState
 answered c sv = record sv { waiting = waits_on (commit_mark c sv) sv.waiting }
 
-abbrev pub after_ack : Setting → ServerState → ℕ → ℕ → ServerState
+abbrev pub after_ack : Config → ServerState → ℕ → ℕ → ServerState
 after_ack c sv i len = if takes_ack c sv i len then answered c (begun c (acked_by sv i len)) else sv
 
 -- ---- LowSet and Stale
 
-abbrev pub after_low : Setting → ServerState → ℕ → ℕ → ServerState
+abbrev pub after_low : Config → ServerState → ℕ → ℕ → ServerState
 after_low c sv i low =
     if sv.adopted i && nat_le low (commit_mark c sv) then record sv { low = put sv.low i (max (sv.low i) low) } else sv
 
@@ -189,7 +189,7 @@ session_of (NotAdopted s adopted) = s
 session_of (LowSet s low) = s
 
 -- a reply of the server's session
-abbrev pub received : Setting → ServerState → ℕ → FromNode → ServerState
+abbrev pub received : Config → ServerState → ℕ → FromNode → ServerState
 received c sv i (Opened s adopted low len) = after_report c sv (record { node = i; adopted = adopted; low = low; length = len })
 received c sv i (Stale s p) = after_stale sv s p
 received c sv i (Unopened s p) = sv
@@ -206,17 +206,17 @@ abbrev pub is_heard : ServerState → FromNode → Bool
 is_heard sv m = is_active sv.phase && session_of m == sv.session
 
 -- the server after a reply of node i
-abbrev pub server_after : Setting → ServerState → ℕ → FromNode → ServerState
+abbrev pub server_after : Config → ServerState → ℕ → FromNode → ServerState
 server_after c sv i m = if is_heard sv m then received c sv i m else sv
 
 -- the requests whose records a reply of node i makes committed, in the order of their ids
-abbrev pub ack_answers : Setting → ServerState → ℕ → ℕ → List Waiting
+abbrev pub ack_answers : Config → ServerState → ℕ → ℕ → List Waiting
 ack_answers c sv i len = if takes_ack c sv i len then is_due (commit_mark c (acked_by sv i len)) sv.waiting else []
 
-abbrev pub received_answers : Setting → ServerState → ℕ → FromNode → List Waiting
+abbrev pub received_answers : Config → ServerState → ℕ → FromNode → List Waiting
 received_answers c sv i (Adopted s len) = ack_answers c sv i len
 received_answers c sv i (Acked s len) = ack_answers c sv i len
 received_answers c sv i _ = []
 
-abbrev pub server_answers : Setting → ServerState → ℕ → FromNode → List Waiting
+abbrev pub server_answers : Config → ServerState → ℕ → FromNode → List Waiting
 server_answers c sv i m = if is_heard sv m then received_answers c sv i m else []

@@ -16,7 +16,7 @@ use Rattle.proto_model.specs.declared.client_message.ToServer.{ToServer}
 use Rattle.proto_model.specs.declared.client_message.ToServer.TheVariants.{Append, Feed, Get, Flush}
 use Rattle.proto_model.specs.declared.client_message.FromServer.{FromServer}
 use Rattle.proto_model.specs.declared.client_message.FromServer.TheVariants.{Committed, Refused, Heads, Entry, Flushed, Unserved}
-use Rattle.proto_model.specs.Servers.{Setting, ServerState, Waiting, base, commit_mark}
+use Rattle.proto_model.specs.Servers.{Config, ServerState, Waiting, chosen_len, commit_mark}
 
 -- ---- appends
 
@@ -28,7 +28,7 @@ window = 1024
 abbrev pub last_id : ℕ
 last_id = 2 ^ 48 - 1
 
-abbrev pub shape_of : Setting → Shape
+abbrev pub shape_of : Config → Shape
 shape_of c = record { rows = c.rows; slots = c.slots }
 
 -- the first of two refusals
@@ -47,10 +47,10 @@ no_room last committed =
     else if last == last_id then Some refused.LogFull else None
 
 -- of a running server. The lock table begins at the recovered mark, which is the length of the chosen log
-abbrev pub running_refusal : Setting → ServerState → Transaction → Option Refusal
+abbrev pub running_refusal : Config → ServerState → Transaction → Option Refusal
 running_refusal c sv tx =
     if nat_lt (length sv.log) tx.mark then Some (refused.MarkAhead (length sv.log))
-    else or_else (locked tx (admission (shape_of c) (base c sv) sv.log tx)) (no_room (length sv.log) (commit_mark c sv))
+    else or_else (locked tx (admission (shape_of c) (chosen_len c sv) sv.log tx)) (no_room (length sv.log) (commit_mark c sv))
 
 abbrev pub refusal_in : Phase → Option Refusal → Option Refusal
 refusal_in phase.Running refusal = refusal
@@ -58,7 +58,7 @@ refusal_in (phase.Closed p) refusal = Some (refused.Closed p)
 refusal_in other refusal = Some (refused.NotRunning other)
 
 -- why an append is refused, None where it is taken
-abbrev pub append_refusal : Setting → ServerState → Transaction → Option Refusal
+abbrev pub append_refusal : Config → ServerState → Transaction → Option Refusal
 append_refusal c sv tx = refusal_in sv.phase (running_refusal c sv tx)
 
 -- the record that a taken append becomes
@@ -76,7 +76,7 @@ abbrev pub if_taken : Option Refusal → ServerState → ServerState → ServerS
 if_taken None old new = new
 if_taken (Some refusal) old new = old
 
-abbrev pub after_append : Setting → ServerState → Transaction → ServerState
+abbrev pub after_append : Config → ServerState → Transaction → ServerState
 after_append c sv tx = if_taken (append_refusal c sv tx) sv (assigned sv tx)
 
 -- a taken append is answered once it is committed
@@ -86,11 +86,11 @@ append_answers tx (Some refusal) = Refused tx.request refusal ∷ []
 
 -- ---- what is committed is shown
 
-abbrev pub committed_log : Setting → ServerState → List Record
+abbrev pub committed_log : Config → ServerState → List Record
 committed_log c sv = take (commit_mark c sv) sv.log
 
 -- the heads of committed records: from an id on, so many at most
-abbrev pub feed : Setting → ServerState → ℕ → ℕ → List Head
+abbrev pub feed : Config → ServerState → ℕ → ℕ → List Head
 feed c sv from max = map head_of (take max (drop (from - 1) (committed_log c sv)))
 
 -- why a server shows nothing. A closed one shows what it had committed
@@ -107,26 +107,26 @@ abbrev pub entry_or : ℕ → Option Record → FromServer
 entry_or committed None = Unserved (unserved.NotYet committed)
 entry_or committed (Some r) = Entry r
 
-abbrev pub feed_answer : Setting → ServerState → ℕ → ℕ → FromServer
+abbrev pub feed_answer : Config → ServerState → ℕ → ℕ → FromServer
 feed_answer c sv from max = unless_shut (shut_in sv.phase)
     (if from == 0 then Unserved unserved.BadId else Heads from (commit_mark c sv) (feed c sv from max))
 
-abbrev pub get_answer : Setting → ServerState → ℕ → FromServer
+abbrev pub get_answer : Config → ServerState → ℕ → FromServer
 get_answer c sv id = unless_shut (shut_in sv.phase)
     (if id == 0 then Unserved unserved.BadId else entry_or (commit_mark c sv) (record_at (committed_log c sv) id))
 
-abbrev pub flush_answer : Setting → ServerState → FromServer
+abbrev pub flush_answer : Config → ServerState → FromServer
 flush_answer c sv = unless_shut (shut_in sv.phase) (Flushed (commit_mark c sv))
 
 -- ---- every request
 
-abbrev pub served_after : Setting → ServerState → ToServer → ServerState
+abbrev pub served_after : Config → ServerState → ToServer → ServerState
 served_after c sv (Append tx) = after_append c sv tx
 served_after c sv (Feed from max) = sv
 served_after c sv (Get id) = sv
 served_after c sv Flush = sv
 
-abbrev pub served_answers : Setting → ServerState → ToServer → List FromServer
+abbrev pub served_answers : Config → ServerState → ToServer → List FromServer
 served_answers c sv (Append tx) = append_answers tx (append_refusal c sv tx)
 served_answers c sv (Feed from max) = feed_answer c sv from max ∷ []
 served_answers c sv (Get id) = get_answer c sv id ∷ []

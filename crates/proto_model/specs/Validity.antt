@@ -87,7 +87,8 @@ IsValidToNode (to_node.Append session batch) = IsPlace session × IsBatch batch
 IsValidToNode (to_node.Low session low) = IsPlace session × IsCount low
 
 abbrev pub IsValidFromNode : FromNode → Type 0
-IsValidFromNode (from_node.Opened session adopted low len) = IsPlace session × IsCount adopted × IsCount low × IsCount len
+IsValidFromNode (from_node.Opened session adopted low len) =
+    IsPlace session × IsCount adopted × IsCount low × IsCount len
 IsValidFromNode (from_node.Stale session promised) = IsPlace session × IsCount promised
 IsValidFromNode (from_node.Unopened session promised) = IsPlace session × IsCount promised
 IsValidFromNode (from_node.Records session batch) = IsPlace session × IsBatch batch
@@ -111,7 +112,15 @@ abbrev pub IsValidFromServer : FromServer → Type 0
 IsValidFromServer (from_server.Committed request id) = IsWord request × IsPlace id
 IsValidFromServer (from_server.Pending request id) = IsWord request × IsPlace id
 IsValidFromServer (from_server.Refused request reason) = IsWord request × IsValidRefusal reason
-IsValidFromServer (from_server.Heads from committed heads) = IsAskedId from × IsCount committed × AreHeads from heads
+IsValidFromServer (from_server.Heads from committed heads) =
+    IsAskedId from × IsCount committed × AreHeads from heads
 IsValidFromServer (from_server.Entry r) = IsRecord r
 IsValidFromServer (from_server.Flushed committed) = IsCount committed
 IsValidFromServer (from_server.Unserved reason) = IsValidReadRefusal reason
+
+-- ---- what a client may be given
+
+-- the record of an entry has an id within the greatest one
+abbrev pub HasPlace : FromServer → Type 0
+HasPlace (from_server.Entry r) = r.id < 2 ^ 48
+HasPlace _ = Unit {0}

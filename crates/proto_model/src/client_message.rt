@@ -2,7 +2,7 @@ use crate::{ReadRefusal, Refusal};
 use tx_model::{Heads, Record, Tx};
 
 /// What a client asks of a server.
-#[derive(Debug, Drop)]
+#[derive(Drop)]
 pub enum ToServer {
     /// A transaction for the end of the log.
     Append(Tx),
@@ -15,7 +15,7 @@ pub enum ToServer {
 }
 
 /// What a server answers to a client.
-#[derive(Debug, Drop)]
+#[derive(Drop)]
 pub enum FromServer {
     /// Request, and the id under which its transaction is committed.
     Committed(u64, u64),

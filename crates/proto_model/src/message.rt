@@ -2,7 +2,7 @@ use std::alloc::{AllocError, Global};
 use tx_model::Batch;
 
 /// What a server sends to a storage node. The first number of each is the server's session.
-#[derive(Debug, Drop)]
+#[derive(Drop)]
 pub enum ToNode {
     /// Asks for a promise: session.
     Open(u64),
@@ -19,7 +19,7 @@ pub enum ToNode {
 }
 
 /// What a storage node answers. The first number of each is the session of the message that it answers.
-#[derive(Debug, Drop)]
+#[derive(Drop)]
 pub enum FromNode {
     /// Session, adopted session, low-water mark, length.
     Opened(u64, u64, u64, u64),
@@ -46,7 +46,7 @@ pub enum FromNode {
 }
 
 /// What a node reported to a server that opens a session there.
-#[derive(Clone, Copy, Debug, PartialEq, Eq)]
+#[derive(Clone, Copy, PartialEq, Eq)]
 pub struct Report {
     pub node: u8,
     pub adopted: u64,
@@ -56,7 +56,7 @@ pub struct Report {
 
 /// What a storage node tells of itself: its promised and its adopted session, its low-water mark, the length of its log,
 /// and the number of the file that its last records are in.
-#[derive(Clone, Copy, Debug, PartialEq, Eq)]
+#[derive(Clone, Copy, PartialEq, Eq)]
 pub struct Status {
     pub promised: u64,
     pub adopted: u64,

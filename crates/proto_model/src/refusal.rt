@@ -3,7 +3,7 @@ use std::alloc::{AllocError, Global};
 use tx_model::Lock;
 
 /// Why a server refuses an append. Of several reasons the first of these is told.
-#[derive(Debug, Drop)]
+#[derive(Drop)]
 pub enum Refusal {
     /// The server is in this phase, which is not running.
     NotRunning(Phase),
@@ -20,7 +20,7 @@ pub enum Refusal {
 }
 
 /// Why a server refuses to show a part of its log. Of several reasons the first of these is told.
-#[derive(Clone, Copy, Debug, PartialEq, Eq)]
+#[derive(Clone, Copy, PartialEq, Eq)]
 pub enum ReadRefusal {
     /// The server is in this phase, in which it has no log to show.
     NotRunning(Phase),

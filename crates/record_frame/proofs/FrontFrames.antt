@@ -2,11 +2,13 @@
 -- comes to stand by what follows, unless too few bytes were there.
 use Rattle.std.proofs.Common.{◌≡◌, ◌≢◌, ℕ, ◌+◌, ◌<◌, ◌≤◌, inl, inr, Bool, List, ◌++◌, length, take, drop, Option, Some, Result, Ok, Err, refl, sym, ap, ◌∙◌, subst, arith}
 use Rattle.std.specs.Prelude.{MatchResult}
+use Rattle.std.specs.Option.{unwrap_or}
 use Rattle.std.specs.Int.{w32, w64, from_be_bytes}
 use Rattle.std.proofs.lemmas.Bool.{cases_lt}
 use Rattle.std.proofs.lemmas.List.{take-append-le, take-take, drop-take, drop-drop}
 use Rattle.tx_model.specs.declared.record.Record.{Record}
 use Rattle.tx_model.specs.declared.meta.Meta.{Meta}
+use Rattle.tx_model.specs.declared.meta.Meta.TheVariants.{Value}
 use Rattle.tx_model.specs.Records.{IsRecord}
 use Rattle.tx_model.specs.Spelling.{record_body, meta_body, IsMeta, SpellsRecord, SpellsMeta}
 use Rattle.record_frame.specs.declared.fault.FrameFault.{FrameFault}
@@ -199,15 +201,29 @@ pub meta_len-alike : (bytes other : List ℕ) → 0 < meta_len bytes → meta_le
 unfolding meta_len
 meta_len-alike bytes other some enough same = ap read_length (alike IsMetaLength IsMeta meta_body is_meta_length meta_in meta_format bytes other some enough same)
 
-pub meta_at-len : (bytes : List ℕ) (x : Meta × ℕ) → meta_at bytes ≡ Ok x → (meta_len bytes ≡ x.1) × (framed_meta bytes ≡ Some x.0) × (12 < x.1)
+pub meta_at-len : (bytes : List ℕ) (x : Meta × ℕ) → meta_at bytes ≡ Ok x → (meta_len bytes ≡ x.1) × (framed_meta bytes ≡ x.0) × (12 < x.1)
 unfolding meta_len framed_meta
 meta_at-len bytes x is =
     let found = holds IsMetaLength IsMeta meta_body is_meta_length meta_in meta_format bytes x is in
     let long : 12 < 12 + length_in bytes = elim found.whole.in_range [ inl nine ↦ omega arith | inr more ↦ elim more [ inl thirteen ↦ omega arith | inr most ↦ omega arith ] ] in
-    (ap read_length is, found.value, omega (arith, found.len))
+    (ap read_length is, ap (λ (o : Option Meta). unwrap_or o (Value 0)) found.value, omega (arith, found.len))
 
-pub meta-spelling-framed : (f rest : List ℕ) (m : Meta) → SpellsMeta f m → (meta_len (f ++ rest) ≡ length f) × (framed_meta (f ++ rest) ≡ Some m) × (12 < length f)
+pub meta-spelling-framed : (f rest : List ℕ) (m : Meta) → SpellsMeta f m → (meta_len (f ++ rest) ≡ length f) × (framed_meta (f ++ rest) ≡ m) × (12 < length f)
 meta-spelling-framed f rest m is = let parts = meta_at-len (f ++ rest) (m, length f) (meta_at-read m f rest is) in (parts.0, parts.1, parts.2)
+
+pub framed_meta-alike : (bytes other : List ℕ) → 0 < meta_len bytes → meta_len bytes ≤ length other → take (meta_len bytes) other ≡ take (meta_len bytes) bytes → framed_meta other ≡ framed_meta bytes
+unfolding meta_len
+framed_meta-alike bytes other some enough same =
+    let found = read IsMetaLength IsMeta meta_body is_meta_length meta_in meta_format (meta_at bytes) some in
+    let there = alike IsMetaLength IsMeta meta_body is_meta_length meta_in meta_format bytes other some enough same in
+    (meta_at-len other found.0 (there ∙ found.1)).1 ∙ sym (meta_at-len bytes found.0 found.1).1
+
+-- what a reading answers
+pub meta-framed : (result : Result (Meta × ℕ) FrameFault) (bytes : List ℕ) → result ≡ meta_at bytes
+    → MatchResult result (λ x. (x.0 ≡ framed_meta bytes) × (x.1 ≡ meta_len bytes) × (0 < x.1)) (λ e. meta_len bytes ≡ 0)
+unfolding meta_len
+meta-framed (Ok x) bytes same = let parts = meta_at-len bytes x (sym same) in (sym parts.1, sym parts.0, omega (arith, parts.2))
+meta-framed (Err e) bytes same = ap read_length (sym same)
 
 pub meta-stays : (bytes rest : List ℕ) (e : FrameFault) → meta_at bytes ≡ Err e → e ≢ Short → meta_len (bytes ++ rest) ≡ 0
 unfolding meta_len

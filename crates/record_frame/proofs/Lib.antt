@@ -1,4 +1,5 @@
 pub mod Names
+pub mod Merges
 pub mod Parts
 pub mod Frames
 pub mod Values

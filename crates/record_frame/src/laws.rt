@@ -1,5 +1,5 @@
 //! Laws of the two formats, as contracts of functions that do nothing.
-ghost use Rattle.std.specs.Prelude.{◌≡◌, ◌<◌, ◌≤◌, ◌++◌, ℕ, List, Ok, Some, length, take};
+ghost use Rattle.std.specs.Prelude.{◌≡◌, ◌<◌, ◌≤◌, ◌++◌, ℕ, List, Ok, length, take};
 ghost use Rattle.tx_model.specs.declared.record.Record.{Record};
 ghost use Rattle.tx_model.specs.declared.meta.Meta.{Meta};
 ghost use Rattle.tx_model.specs.Spelling.{SpellsRecord, SpellsMeta};
@@ -59,6 +59,10 @@ pub fn meta_frames_stand_alone()
         meta_len bytes ≤ length other →
         take (meta_len bytes) other ≡ take (meta_len bytes) bytes →
         meta_len other ≡ meta_len bytes }
+    ensures value { (bytes other : List ℕ) → 0 < meta_len bytes →
+        meta_len bytes ≤ length other →
+        take (meta_len bytes) other ≡ take (meta_len bytes) bytes →
+        framed_meta other ≡ framed_meta bytes }
     ensures spelled { (frame rest : List ℕ) (m : Meta) → SpellsMeta frame m →
-        (meta_len (frame ++ rest) ≡ length frame) × (framed_meta (frame ++ rest) ≡ Some m) }
+        (meta_len (frame ++ rest) ≡ length frame) × (framed_meta (frame ++ rest) ≡ m) }
 {}

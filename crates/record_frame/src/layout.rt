@@ -1,12 +1,13 @@
 //! Whether bytes are the body of a record, found without memory.
 ghost use Rattle.std.specs.Prelude.{◌≡◌, ◌↔◌, ◌+◌, ◌≤◌, [], true, false, length, IsTrue, IfSome, IfNone};
 ghost use Rattle.std.specs.Int.{w32, w64};
-ghost use Rattle.tx_model.specs.Transactions.{is_among, are_apart, is_before};
+ghost use Rattle.tx_model.specs.Transactions.{are_apart, is_before};
 ghost use Rattle.record_frame.specs.Reading.{number, is_name_at, name_at, after_name, are_names, names_of, past_names, are_lists, after_lists, is_payload, is_transaction, is_body};
 ghost use Rattle.record_frame.specs.Faults.{IsRecordBody};
 
 use crate::ranges::is_place;
-use tx_model::{MAX_LOCKS, MAX_PAYLOAD};
+use std::cmp::Ordering;
+use tx_model::{MAX_LOCKS, MAX_NAME, MAX_PAYLOAD};
 
 /// The number in four bytes at a place.
 pub fn u32_in(bytes: &[u8], at: usize) -> u32
@@ -36,7 +37,7 @@ pub fn is_name(bytes: &[u8]) -> bool
         return false;
     }
     let len = bytes[0] as usize;
-    1 <= len && len <= 64 && len < bytes.len()
+    1 <= len && len <= MAX_NAME && len < bytes.len()
 }
 
 /// The name at the front, and the bytes after it.
@@ -78,35 +79,26 @@ fn after_names(count: u8, bytes: &[u8]) -> Option<&[u8]>
     Some(rest)
 }
 
-/// Whether a name is among the names at the front.
-fn is_among(name: &[u8], count: u8, bytes: &[u8]) -> bool
-    requires { are_names [] count bytes.now ≡ true }
-    ensures { result ≡ is_among name.now (names_of count bytes.now) }
-{
-    let mut rest = bytes;
-    for _ in 0..count {
-        let (other, after) = split_name(rest);
-        if name == other {
-            return true;
-        }
-        rest = after;
-    }
-    false
-}
-
-/// Whether no name stands in both lists. They are short: at most 1,024 pairs are compared.
-fn are_apart(reads: u8, read_bytes: &[u8], writes: u8, write_bytes: &[u8]) -> bool
+/// Whether no name stands in both lists.
+fn are_apart(mut reads: u8, mut read_bytes: &[u8], mut writes: u8, mut write_bytes: &[u8]) -> bool
     requires reads { are_names [] reads read_bytes.now ≡ true }
     requires writes { are_names [] writes write_bytes.now ≡ true }
     ensures { result ≡ are_apart (names_of reads read_bytes.now) (names_of writes write_bytes.now) }
 {
-    let mut rest = write_bytes;
-    for _ in 0..writes {
-        let (name, after) = split_name(rest);
-        if is_among(name, reads, read_bytes) {
-            return false;
+    while reads > 0 && writes > 0 {
+        let (read, later_reads) = split_name(read_bytes);
+        let (write, later_writes) = split_name(write_bytes);
+        match read.cmp(write) {
+            Ordering::Less => {
+                reads -= 1;
+                read_bytes = later_reads;
+            }
+            Ordering::Greater => {
+                writes -= 1;
+                write_bytes = later_writes;
+            }
+            Ordering::Equal => return false,
         }
-        rest = after;
     }
     true
 }

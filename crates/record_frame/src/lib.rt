@@ -12,8 +12,6 @@ mod layout;
 mod meta;
 mod ranges;
 mod reading;
-#[cfg(test)]
-mod tests;
 mod writing;
 
 pub use fault::FrameFault;

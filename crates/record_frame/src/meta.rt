@@ -1,9 +1,10 @@
 //! Frames of meta entries. Nothing here takes memory.
-ghost use Rattle.std.specs.Prelude.{◌≡◌, ◌≢◌, ◌↔◌, ◌+◌, ◌≤◌, ◌++◌, ◌∷◌, ℕ, List, Ok, length, take, drop, IfOk};
+ghost use Rattle.std.specs.Prelude.{◌≡◌, ◌≢◌, ◌↔◌, ◌+◌, ◌≤◌, ◌++◌, ◌∷◌, ◌<◌, ℕ, List, Ok, length, take, drop, IfOk, IfErr, MatchResult};
 ghost use Rattle.std.specs.Int.{w64, to_be_bytes};
 ghost use Rattle.tx_model.specs.declared.meta.Meta.{Meta as MetaValue};
 ghost use Rattle.tx_model.specs.Spelling.{meta_body, meta_frame, IsMeta, SpellsMeta};
 ghost use Rattle.record_frame.specs.Reading.{one_number, roll_in, adopt_in, meta_in, meta_at, BeginsWith};
+ghost use Rattle.record_frame.specs.Framing.{meta_len, framed_meta};
 ghost use Rattle.record_frame.specs.Faults.{IsMetaLength, IsMetaBody, IsShort, IsBadAt};
 
 use crate::fault::FrameFault;
@@ -87,6 +88,13 @@ pub fn decode_meta(bytes: &[u8]) -> Result<(Meta, usize), FrameFault>
     ensures found { IfOk result (λ x. BeginsWith SpellsMeta bytes.now x.0 x.1) }
     ensures only { (m : MetaValue) (spelled rest : List ℕ) →
         SpellsMeta spelled m → bytes.now ≡ spelled ++ rest → result ≡ Ok (m, length spelled) }
+
+    // As a framing says it: a length, or none, and what is bad stays so whatever follows.
+    ensures framed { MatchResult result
+        (λ x. (x.0 ≡ framed_meta bytes.now) × (x.1 ≡ meta_len bytes.now) × (0 < x.1))
+        (λ _. meta_len bytes.now ≡ 0) }
+    ensures stays { IfErr result
+        (λ fault. fault ≢ FrameFault.Short → (rest : List ℕ) → meta_len (bytes.now ++ rest) ≡ 0) }
 
     // The refusals, each by its cause.
     ensures short { (result ≡ Err FrameFault.Short) ↔ IsShort IsMetaLength bytes.now }

@@ -51,11 +51,12 @@ pub fn transaction_of(alloc: Global, bytes: &[u8]) -> Result<Tx, AllocError>
     let (_, lists) = bytes.split_at(24);
     let (reads, writes, rest) = locks_of(alloc, lists)?;
     let (_, payload) = rest.split_at(4);
-    let payload = payload.to_vec(alloc)?;
+    let payload = Vec::from_slice(alloc, payload)?;
     let client = u64_in(bytes, 0);
     let request = u64_in(bytes, 8);
     let mark = u64_in(bytes, 16);
-    Ok(Tx::of_lists(client, request, mark, reads, writes, payload))
+    let tx = Tx::of_lists(alloc, client, request, mark, reads, writes, payload)?;
+    Ok(tx)
 }
 
 #[tactic(auto, using(crate::proofs::Parts::is_body_tells), unfolding(crate::specs::Reading::record_of))]
@@ -128,7 +129,8 @@ fn decode(alloc: Global, bytes: &[u8]) -> Result<(Record, usize), FrameFault>
 /// never by `Memory`.
 pub fn check_record(bytes: &[u8]) -> Result<usize, FrameFault>
     ensures exact { Checks result (record_at bytes.now) }
-    ensures found { IfOk result (λ len. (r : RecordValue) × BeginsWith SpellsRecord bytes.now r len) }
+    ensures found { IfOk result
+        (λ len. (r : RecordValue) × BeginsWith SpellsRecord bytes.now r len) }
     ensures only { (r : RecordValue) (spelled rest : List ℕ) →
         SpellsRecord spelled r → bytes.now ≡ spelled ++ rest → result ≡ Ok (length spelled) }
 
@@ -156,7 +158,7 @@ pub fn framed_id(bytes: &[u8]) -> u64
 }
 
 /// The record of the frame at the front, and the frame's length. What follows the frame doesn't matter. The memory that
-/// it takes is bounded by the frame's length.
+/// it takes is bounded by a fixed multiple of the frame's length.
 pub fn decode_record(alloc: Global, bytes: &[u8]) -> Result<(Record, usize), FrameFault>
     ensures exact { Builds result (record_at bytes.now) }
     ensures found { IfOk result (λ x. BeginsWith SpellsRecord bytes.now x.0 x.1) }
@@ -164,7 +166,8 @@ pub fn decode_record(alloc: Global, bytes: &[u8]) -> Result<(Record, usize), Fra
         (λ x. (x.0 ≡ framed_record bytes.now) × (x.1 ≡ record_len bytes.now))
         (λ fault. fault ≢ FrameFault.Memory → record_len bytes.now ≡ 0) }
     ensures only { (r : RecordValue) (spelled rest : List ℕ) →
-        SpellsRecord spelled r → bytes.now ≡ spelled ++ rest → OkOrMemory result (r, length spelled) }
+        SpellsRecord spelled r → bytes.now ≡ spelled ++ rest →
+        OkOrMemory result (r, length spelled) }
 
     // The refusals, each by its cause.
     ensures short { (result ≡ Err FrameFault.Short) ↔ IsShort IsRecordLength bytes.now }

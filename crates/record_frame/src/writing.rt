@@ -1,15 +1,16 @@
 //! Records as frames.
 ghost use Rattle.std.specs.Prelude.{◌≡◌, ◌+◌, ◌*◌, ◌≤◌, ◌++◌, length, OnOk, OnErr};
+ghost use Rattle.record_frame.specs.Adding.{Keeps};
 ghost use Rattle.tx_model.specs.Records.{IsRecord};
 ghost use Rattle.tx_model.specs.Spelling.{spelled_name, spelled_names, spelled_locks, spelled_transaction, record_body, record_frame};
 
 use crate::framing::check_of;
 use std::alloc::{AllocError, Global};
-use tx_model::{Lock, Record, Tx};
+use tx_model::{Lock, MAX_LOCKS, Record, Tx};
 
 /// How many bytes spell the names.
 fn names_len(locks: &[Lock]) -> usize
-    requires { length locks.now ≤ 64 }
+    requires { length locks.now ≤ MAX_LOCKS }
     ensures len { result ≡ length (spelled_names locks.now) }
     ensures short { result ≤ 65 * length locks.now }
 {
@@ -30,9 +31,10 @@ pub fn body_len(entry: &Record) -> usize
     47 + names_len(reads) + names_len(writes) + entry.tx.payload().len()
 }
 
-/// Adds the name of a lock behind its length. On an error some of it may stand at the end.
+/// Adds the name of a lock behind its length. On an error some of it may stand behind what stood there.
 pub fn put_name(into: &mut Vec<u8>, lock: &Lock) -> Result<(), AllocError>
-    ensures { OnOk result (into.new.items ≡ into.old.items ++ spelled_name lock.now) }
+    ensures ok { OnOk result (into.new.items ≡ into.old.items ++ spelled_name lock.now) }
+    ensures kept { Keeps into.old.items into.new.items }
 {
     let name = lock.bytes();
     into.push(name.len() as u8)?;
@@ -41,7 +43,8 @@ pub fn put_name(into: &mut Vec<u8>, lock: &Lock) -> Result<(), AllocError>
 }
 
 fn put_names(into: &mut Vec<u8>, locks: &[Lock]) -> Result<(), AllocError>
-    ensures { OnOk result (into.new.items ≡ into.old.items ++ spelled_names locks.now) }
+    ensures ok { OnOk result (into.new.items ≡ into.old.items ++ spelled_names locks.now) }
+    ensures kept { Keeps into.old.items into.new.items }
 {
     for lock in locks {
         put_name(into, lock)?;
@@ -49,10 +52,12 @@ fn put_names(into: &mut Vec<u8>, locks: &[Lock]) -> Result<(), AllocError>
     Ok(())
 }
 
-/// Adds how many read locks and write locks there are, and their names. On an error some of it may stand at the end.
+/// Adds how many read locks and write locks there are, and their names. On an error some of it may stand behind what stood there.
 pub fn put_locks(into: &mut Vec<u8>, reads: &[Lock], writes: &[Lock]) -> Result<(), AllocError>
-    requires { length reads.now + length writes.now ≤ 64 }
-    ensures { OnOk result (into.new.items ≡ into.old.items ++ spelled_locks reads.now writes.now) }
+    requires { length reads.now + length writes.now ≤ MAX_LOCKS }
+    ensures ok { OnOk result
+        (into.new.items ≡ into.old.items ++ spelled_locks reads.now writes.now) }
+    ensures kept { Keeps into.old.items into.new.items }
 {
     into.push(reads.len() as u8)?;
     into.push(writes.len() as u8)?;
@@ -61,9 +66,10 @@ pub fn put_locks(into: &mut Vec<u8>, reads: &[Lock], writes: &[Lock]) -> Result<
     Ok(())
 }
 
-/// Adds the fields of a transaction. On an error some of it may stand at the end.
+/// Adds the fields of a transaction. On an error some of it may stand behind what stood there.
 pub fn put_transaction(into: &mut Vec<u8>, tx: &Tx) -> Result<(), AllocError>
-    ensures { OnOk result (into.new.items ≡ into.old.items ++ spelled_transaction tx.now) }
+    ensures ok { OnOk result (into.new.items ≡ into.old.items ++ spelled_transaction tx.now) }
+    ensures kept { Keeps into.old.items into.new.items }
 {
     let reads = tx.reads();
     let writes = tx.writes();
@@ -77,9 +83,10 @@ pub fn put_transaction(into: &mut Vec<u8>, tx: &Tx) -> Result<(), AllocError>
     Ok(())
 }
 
-/// Adds the body of a record. On an error some of it may stand at the end.
+/// Adds the body of a record. On an error some of it may stand behind what stood there.
 pub fn put_record(into: &mut Vec<u8>, entry: &Record) -> Result<(), AllocError>
-    ensures { OnOk result (into.new.items ≡ into.old.items ++ record_body entry.now) }
+    ensures ok { OnOk result (into.new.items ≡ into.old.items ++ record_body entry.now) }
+    ensures kept { Keeps into.old.items into.new.items }
 {
     into.push(1)?;
     into.extend_from_slice(&entry.id.to_be_bytes())?;
@@ -88,17 +95,33 @@ pub fn put_record(into: &mut Vec<u8>, entry: &Record) -> Result<(), AllocError>
     Ok(())
 }
 
-/// Adds the one frame of a record. It is built apart and added at once.
-pub fn encode_record(alloc: Global, entry: &Record, into: &mut Vec<u8>) -> Result<(), AllocError>
+/// Adds the frame of a record. On an error some of it may stand behind what stood there.
+fn put_frame(into: &mut Vec<u8>, entry: &Record, len: u32) -> Result<(), AllocError>
+    requires record { IsRecord entry.now }
+    requires len { len ≡ length (record_body entry.now) }
+    ensures ok { OnOk result (into.new.items ≡ into.old.items ++ record_frame entry.now) }
+    ensures kept { Keeps into.old.items into.new.items }
+{
+    let start = into.len();
+    into.extend_from_slice(&len.to_be_bytes())?;
+    put_record(into, entry)?;
+    let check = check_of(&into[start..]);
+    into.extend_from_slice(&check)?;
+    Ok(())
+}
+
+/// Adds the one frame of a record, in memory that is taken once.
+pub fn encode_record(_alloc: Global, entry: &Record, into: &mut Vec<u8>) -> Result<(), AllocError>
     requires { IsRecord entry.now }
     ensures ok { OnOk result (into.new.items ≡ into.old.items ++ record_frame entry.now) }
     ensures err { OnErr result (into.new.items ≡ into.old.items) }
 {
+    let start = into.len();
     let len = body_len(entry);
-    let mut bytes = Vec::with_capacity(alloc, 12 + len)?;
-    bytes.extend_from_slice(&(len as u32).to_be_bytes())?;
-    put_record(&mut bytes, entry)?;
-    let check = check_of(&bytes);
-    bytes.extend_from_slice(&check)?;
-    into.extend_from_slice(&bytes)
+    into.reserve(12 + len)?;
+    let written = put_frame(into, entry, len as u32);
+    if written.is_err() {
+        into.truncate(start);
+    }
+    written
 }

@@ -6,10 +6,11 @@ use Rattle.std.proofs.lemmas.Bool.{and_parts, and_from, cases_Bool, false≢true
 use Rattle.std.proofs.lemmas.Bool.Decides.{nat_tests}
 use Rattle.std.proofs.lemmas.Slice.Eq.{bytes_eq-Decides}
 use Rattle.std.specs.Str.{bytes_eq}
-use Rattle.schedule_text.specs.declared.event.Event.TheVariants.{Append}
+use Rattle.net_model.specs.declared.event.Event.TheVariants.{Append}
 use Rattle.schedule_text.specs.Events.{AreOps, IsOpsByte, ops_word, keys_spelling, SpellsEvent}
 use Rattle.schedule_text.specs.Parts.{IsAppendRest, IsKeysWord, SpellsKeys, SpellsOpsWord, IsOpsWord, append_rest}
-use Rattle.schedule_text.specs.Words.{HasNoSpace, IsWithin}
+use Rattle.schedule_text.specs.Words.{HasNoSpace}
+use Rattle.net_model.specs.Clusters.{IsWithin}
 use Rattle.schedule_text.proofs.KeyLemmas.{HasNoSpace-keys_word}
 use Rattle.schedule_text.proofs.WordLemmas.{rest_same, parts_unique, has_space}
 

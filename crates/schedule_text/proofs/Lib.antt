@@ -3,12 +3,4 @@ pub mod KeyLemmas
 pub mod AppendLemmas
 pub mod EventLemmas
 pub mod PrintLemmas
-pub mod StepLemmas
-pub mod RunLemmas
-pub mod ScheduleLemmas
-pub mod SafeFacts
-pub mod SafeLists
-pub mod SafeNodes
-pub mod SafeServers
-pub mod SafeWorlds
-pub mod SafeRuns
+pub mod LineLaws

@@ -1,16 +1,10 @@
--- Texts as they grow, byte by byte and item by item.
-use Rattle.std.proofs.Common.{◌≡◌, ℕ, ◌+◌, ◌<◌, List, ◌++◌, length, take, get_or, ap, sym, ◌∙◌, append_assoc, Result, Ok, Err}
-use Rattle.std.specs.Prelude.{OnOk, is_ok, if◌then◌else◌}
-use Rattle.std.specs.List.{flat_map}
-use Rattle.std.proofs.lemmas.List.{take_more, flat_map_more}
-use Rattle.schedule_text.specs.Outcomes.{hex_byte}
+-- Texts as they grow.
+use Rattle.std.proofs.Common.{◌≡◌, ℕ, List, ◌++◌, ◌∙◌, ap, append_assoc}
+use Rattle.std.specs.Prelude.{Result, OnOk}
+use Rattle.std.proofs.lemmas.Result.{on_ok_weaker}
 
--- one byte more in hexadecimal
-pub hex_more : (old text next bytes : List ℕ) (i : ℕ) → i < length bytes → text ≡ old ++ flat_map hex_byte (take i bytes) → next ≡ text ++ hex_byte (get_or bytes i 0) → next ≡ old ++ flat_map hex_byte (take (i + 1) bytes)
-hex_more old text next bytes i within so_far more =
-    more ∙ ap (λ t. t ++ hex_byte (get_or bytes i 0)) so_far ∙ flat_map_more hex_byte old (take i bytes) (get_or bytes i 0) ∙ ap (λ b. old ++ flat_map hex_byte b) (sym (take_more bytes i 0 within))
-
--- one text after another
-pub two_texts : {T E : Type 0} (r : Result T E) (old one two first word second : List ℕ) → one ≡ old ++ first → two ≡ (if is_ok r then one ++ word else one) → word ≡ second → OnOk r (two ≡ old ++ (first ++ second))
-two_texts (Ok x) old one two first word second p q same = q ∙ ap (λ t. t ++ word) p ∙ append_assoc old first word ∙ ap (λ t. old ++ (first ++ t)) same
-two_texts (Err e) old one two first word second p q same = tt
+-- five texts, one after the other
+pub five_texts : {T E : Type 0} (r : Result T E) (old one two three four five a b c d e : List ℕ) → one ≡ old ++ a → two ≡ one ++ b → three ≡ two ++ c → four ≡ three ++ d → OnOk r (five ≡ four ++ e) → OnOk r (five ≡ old ++ (a ++ (b ++ (c ++ (d ++ e)))))
+five_texts r old one two three four five a b c d e p q s t last =
+    let front : four ≡ old ++ (a ++ (b ++ (c ++ d))) = t ∙ ap (λ l. l ++ d) (s ∙ ap (λ l. l ++ c) (q ∙ ap (λ l. l ++ b) p)) ∙ simp append_assoc in
+    on_ok_weaker r (λ is. is ∙ ap (λ l. l ++ e) front ∙ simp append_assoc) last

@@ -2,10 +2,9 @@
 use Rattle.std.specs.Prelude.{◌≡◌, ◌≢◌, ℕ, ◌<◌, ◌≤◌, ◌^◌, List, [], ◌∷◌, ◌++◌, codes, decimal, flat_map, ⊤}
 use Rattle.std.specs.List.{AllByRecursion}
 use Rattle.tx_model.specs.Applications.{IsKey}
-use Rattle.schedule_text.specs.declared.event.Event.{Event}
-use Rattle.schedule_text.specs.declared.event.Event.TheVariants.{Read, Cas, Tick, Next, Append, Ask, App}
-use Rattle.schedule_text.specs.declared.event.Cluster.{Cluster}
-use Rattle.schedule_text.specs.Words.{IsWithin}
+use Rattle.net_model.specs.declared.event.Event.{Event}
+use Rattle.net_model.specs.declared.event.Event.TheVariants.{Read, Cas, Waste, Tick, Next, Skip, Deliver, Tear, Crash, Restart, Reboot, Append, Ask, Flush, Show, Server, App, Log, Dump}
+use Rattle.net_model.specs.declared.cluster.Cluster.{Cluster}
 
 -- ---- the first line
 
@@ -15,13 +14,6 @@ cluster_spelling c =
 
 abbrev pub SpellsCluster : List ℕ → Cluster → Type 0
 SpellsCluster line c = line ≡ cluster_spelling c
-
-pub record IsClusterInRange (c : Cluster) : Type 0 where
-  pub nodes : IsWithin 7 c.nodes
-  pub servers : IsWithin 9 c.servers
-  pub clients : IsWithin 9 c.clients
-  pub rows : IsWithin 8 c.rows
-  pub slots : IsWithin 4096 c.slots
 
 -- ---- lists of keys, and ops
 
@@ -53,12 +45,24 @@ pub record AreOps (ops : List ℕ) : Type 0 where
 abbrev pub spelling : Event → List ℕ
 spelling (Read server) = codes "read " ++ decimal server
 spelling (Cas server) = codes "cas " ++ decimal server
+spelling (Waste server) = codes "waste " ++ decimal server
 spelling (Tick server) = codes "tick " ++ decimal server
 spelling Next = codes "next"
+spelling Skip = codes "skip"
+spelling (Deliver envelope) = codes "deliver " ++ decimal envelope
+spelling (Tear envelope bytes) = codes "tear " ++ (decimal envelope ++ 32 ∷ decimal bytes)
+spelling (Crash node) = codes "crash " ++ decimal node
+spelling (Restart server) = codes "restart " ++ decimal server
+spelling (Reboot client) = codes "reboot " ++ decimal client
 spelling (Append client server writes reads ops) =
     codes "append " ++ (decimal client ++ 32 ∷ (decimal server ++ 32 ∷ (keys_spelling writes ++ 32 ∷ (keys_spelling reads ++ 32 ∷ ops_word ops))))
 spelling (Ask client server) = codes "ask " ++ (decimal client ++ 32 ∷ decimal server)
+spelling (Flush client server) = codes "flush " ++ (decimal client ++ 32 ∷ decimal server)
+spelling (Show node) = codes "show " ++ decimal node
+spelling (Server server) = codes "server " ++ decimal server
 spelling (App client) = codes "app " ++ decimal client
+spelling (Log from) = codes "log " ++ decimal from
+spelling (Dump node file at) = codes "dump " ++ (decimal node ++ 32 ∷ (decimal file ++ 32 ∷ decimal at))
 
 -- the values of a line in form: numbers of 64 bits, keys, and ops
 pub record IsAppendForm (client server : ℕ) (writes reads : List (List ℕ)) (ops : List ℕ) : Type 0 where
@@ -71,23 +75,36 @@ pub record IsAppendForm (client server : ℕ) (writes reads : List (List ℕ)) (
 abbrev pub HasForm : Event → Type 0
 HasForm (Read server) = server < 2 ^ 64
 HasForm (Cas server) = server < 2 ^ 64
+HasForm (Waste server) = server < 2 ^ 64
 HasForm (Tick server) = server < 2 ^ 64
 HasForm Next = ⊤
+HasForm Skip = ⊤
+HasForm (Deliver envelope) = envelope < 2 ^ 64
+HasForm (Tear envelope bytes) = (envelope < 2 ^ 64) × (bytes < 2 ^ 64)
+HasForm (Crash node) = node < 2 ^ 64
+HasForm (Restart server) = server < 2 ^ 64
+HasForm (Reboot client) = client < 2 ^ 64
 HasForm (Append client server writes reads ops) = IsAppendForm client server writes reads ops
 HasForm (Ask client server) = (client < 2 ^ 64) × (server < 2 ^ 64)
+HasForm (Flush client server) = (client < 2 ^ 64) × (server < 2 ^ 64)
+HasForm (Show node) = node < 2 ^ 64
+HasForm (Server server) = server < 2 ^ 64
 HasForm (App client) = client < 2 ^ 64
+HasForm (Log from) = from < 2 ^ 64
+HasForm (Dump node file at) = (node < 2 ^ 64) × (file < 2 ^ 64) × (at < 2 ^ 64)
 
 -- a line in form, whether or not its numbers are in range
 pub record SpellsEvent (line : List ℕ) (event : Event) : Type 0 where
   pub text : line ≡ spelling event
   pub form : HasForm event
 
--- the numbers are in the ranges of the cluster
-abbrev pub IsInRange : Cluster → Event → Type 0
-IsInRange c (Read server) = IsWithin c.servers server
-IsInRange c (Cas server) = IsWithin c.servers server
-IsInRange c (Tick server) = IsWithin c.servers server
-IsInRange c Next = ⊤
-IsInRange c (Append client server writes reads ops) = IsWithin c.clients client × IsWithin c.servers server
-IsInRange c (Ask client server) = IsWithin c.clients client × IsWithin c.servers server
-IsInRange c (App client) = IsWithin c.clients client
+-- the events whose lines `read_event` takes so far
+abbrev pub IsReadEvent : Event → Type 0
+IsReadEvent (Read server) = ⊤
+IsReadEvent (Cas server) = ⊤
+IsReadEvent (Tick server) = ⊤
+IsReadEvent Next = ⊤
+IsReadEvent (Append client server writes reads ops) = ⊤
+IsReadEvent (Ask client server) = ⊤
+IsReadEvent (App client) = ⊤
+IsReadEvent _ = ⊥

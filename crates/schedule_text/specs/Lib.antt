@@ -1,11 +1,5 @@
 pub mod Words
 pub mod Events
 pub mod Parts
-pub mod Mails
 pub mod Outcomes
-pub mod Registers
-pub mod Worlds
-pub mod OneLog
-pub mod Safety
-pub mod Runs
-pub mod Schedules
+pub mod Laws

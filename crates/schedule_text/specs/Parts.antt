@@ -2,11 +2,12 @@
 use Rattle.std.specs.Prelude.{◌≡◌, ℕ, List, ◌++◌, ◌∷◌, codes, decimal, ⊤}
 use Rattle.std.specs.List.{AllByRecursion}
 use Rattle.tx_model.specs.Applications.{IsKey}
-use Rattle.schedule_text.specs.declared.event.Cluster.{Cluster}
-use Rattle.schedule_text.specs.declared.event.Event.{Event}
-use Rattle.schedule_text.specs.declared.event.Event.TheVariants.{Append}
-use Rattle.schedule_text.specs.Events.{AreOps, keys_spelling, ops_word, SpellsEvent, IsInRange}
-use Rattle.schedule_text.specs.Words.{IsWithin}
+use Rattle.net_model.specs.declared.cluster.Cluster.{Cluster}
+use Rattle.net_model.specs.declared.event.Event.{Event}
+use Rattle.net_model.specs.declared.event.Event.TheVariants.{Append}
+use Rattle.schedule_text.specs.Events.{AreOps, keys_spelling, ops_word, SpellsEvent}
+use Rattle.net_model.specs.Events.{IsInRange}
+use Rattle.net_model.specs.Clusters.{IsWithin}
 
 -- a word is this list of keys
 pub record SpellsKeys (word : List ℕ) (keys : List (List ℕ)) : Type 0 where

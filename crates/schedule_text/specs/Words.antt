@@ -1,15 +1,11 @@
 -- Words with single spaces between them, and numbers as words.
-use Rattle.std.specs.Prelude.{◌≢◌, ℕ, ◌≤◌, List, [], ◌∷◌, ◌++◌, decimal, ⊤}
+use Rattle.std.specs.Prelude.{◌≢◌, ℕ, List, [], ◌∷◌, ◌++◌, decimal, ⊤}
+use Rattle.net_model.specs.Clusters.{IsWithin}
 
 -- no byte of these is a space
 abbrev pub HasNoSpace : List ℕ → Type 0
 HasNoSpace [] = ⊤
 HasNoSpace (byte ∷ bytes) = (byte ≢ 32) × HasNoSpace bytes
-
--- from 1 to the most
-pub record IsWithin (most n : ℕ) : Type 0 where
-  pub some : 1 ≤ n
-  pub fits : n ≤ most
 
 -- no number from 1 to the most is spelled so
 abbrev pub IsNoneWithin : ℕ → List ℕ → Type 0

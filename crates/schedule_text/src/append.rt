@@ -1,11 +1,13 @@
 //! The line of an append: its lists of keys and its ops.
 ghost use Rattle.std.specs.Prelude.{◌≡◌, ◌++◌, ◌↔◌, ℕ, List, IfSome, IfNone, IfOk, IsTrue, codes};
-ghost use Rattle.schedule_text.specs.Events.{SpellsEvent, IsInRange};
+ghost use Rattle.schedule_text.specs.Events.{SpellsEvent, IsReadEvent};
+ghost use Rattle.net_model.specs.Events.{IsInRange};
 ghost use Rattle.schedule_text.specs.Parts.{SpellsKeys, IsKeysWord, SpellsOpsWord, IsOpsWord, IsAppendRest, IsNoAppend};
 
+use crate::LineFault;
 use crate::key::is_key;
 use crate::parse::{first_number, split_word};
-use crate::{Cluster, Event, LineFault};
+use net_model::{Cluster, Event};
 use std::alloc::{AllocError, Global};
 use tx_model::{Lock, Locks, OpText};
 
@@ -119,7 +121,7 @@ fn built(
 
 /// The event of an append's line, of which this stands behind the word and its space.
 pub(crate) fn read_append(alloc: Global, text: &[u8], cluster: &Cluster) -> Result<Event, LineFault>
-    ensures ok { IfOk result (λ event. SpellsEvent (codes "append " ++ text.now) event × IsInRange cluster.now event) }
+    ensures ok { IfOk result (λ event. SpellsEvent (codes "append " ++ text.now) event × IsInRange cluster.now event × IsReadEvent event) }
     ensures bad { (result ≡ Err LineFault.Bad) ↔ IsNoAppend cluster.now text.now }
 {
     let clients = u64::from(cluster.clients);

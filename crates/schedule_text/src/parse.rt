@@ -1,13 +1,16 @@
 ghost use Rattle.std.specs.Prelude.{◌≡◌, ◌≢◌, ◌<◌, ◌≤◌, ◌^◌, ◌++◌, ◌∷◌, ◌↔◌, ℕ, List, IfSome, IfNone, IfOk, decimal};
-ghost use Rattle.schedule_text.specs.declared.event.Event.{Event as EventValue};
-ghost use Rattle.schedule_text.specs.declared.event.Cluster.{Cluster as ClusterValue};
-ghost use Rattle.schedule_text.specs.Events.{SpellsEvent, IsInRange, SpellsCluster, IsClusterInRange};
+ghost use Rattle.net_model.specs.declared.event.Event.{Event as EventValue};
+ghost use Rattle.net_model.specs.declared.cluster.Cluster.{Cluster as ClusterValue};
+ghost use Rattle.schedule_text.specs.Events.{SpellsEvent, SpellsCluster, IsReadEvent};
+ghost use Rattle.net_model.specs.Events.{IsInRange};
+ghost use Rattle.net_model.specs.Clusters.{IsClusterInRange};
 ghost use Rattle.schedule_text.specs.Parts.{IsAppend};
-ghost use Rattle.schedule_text.specs.Words.{HasNoSpace, IsWithin, IsNoneWithin, IsNoneFirst};
+ghost use Rattle.schedule_text.specs.Words.{HasNoSpace, IsNoneWithin, IsNoneFirst};
+ghost use Rattle.net_model.specs.Clusters.{IsWithin};
 
 use crate::append::read_append;
-use crate::{Cluster, Event};
 use io_core::read_number;
+use net_model::{Cluster, Event};
 use std::alloc::Global;
 
 /// Why a line is not read.
@@ -126,8 +129,8 @@ fn paired(line: &[u8], word: &[u8], clients: u64, servers: u64) -> Option<(u64, 
 
 // The event of a line that is no append.
 fn read_plain(line: &[u8], cluster: &Cluster) -> Option<Event>
-    ensures some { IfSome result (λ event. SpellsEvent line.now event × IsInRange cluster.now event) }
-    ensures none { IfNone result ((event : EventValue) → SpellsEvent line.now event → IsInRange cluster.now event → IsAppend event) }
+    ensures some { IfSome result (λ event. SpellsEvent line.now event × IsInRange cluster.now event × IsReadEvent event) }
+    ensures none { IfNone result ((event : EventValue) → SpellsEvent line.now event → IsReadEvent event → IsInRange cluster.now event → IsAppend event) }
 {
     let clients = u64::from(cluster.clients);
     let servers = u64::from(cluster.servers);
@@ -152,11 +155,11 @@ fn read_plain(line: &[u8], cluster: &Cluster) -> Option<Event>
     None
 }
 
-/// The event that a further line spells, where its numbers are in the ranges of the cluster. A line that is Bad is so
-/// whatever memory there is.
+/// The event that a further line spells, of those that are read so far, where its numbers are in the ranges of the cluster.
+/// A line that is Bad is so whatever memory there is.
 pub fn read_event(alloc: Global, line: &[u8], cluster: &Cluster) -> Result<Event, LineFault>
-    ensures ok { IfOk result (λ event. SpellsEvent line.now event × IsInRange cluster.now event) }
-    ensures bad { (result ≡ Err LineFault.Bad) ↔ ((event : EventValue) → SpellsEvent line.now event → ¬ IsInRange cluster.now event) }
+    ensures ok { IfOk result (λ event. SpellsEvent line.now event × IsInRange cluster.now event × IsReadEvent event) }
+    ensures bad { (result ≡ Err LineFault.Bad) ↔ ((event : EventValue) → SpellsEvent line.now event → IsReadEvent event → ¬ IsInRange cluster.now event) }
 {
     if let Some(event) = read_plain(line, cluster) {
         return Ok(event);

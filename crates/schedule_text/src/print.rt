@@ -1,217 +1,213 @@
-ghost use Rattle.std.specs.Prelude.{◌≡◌, ◌++◌, true, codes, OnOk, OnErr, IfOk};
-ghost use Rattle.std.specs.String.{string_bytes};
+//! The lines of outcomes.
+ghost use Rattle.std.specs.Prelude.{◌≡◌, ◌++◌, ◌∷◌, [], codes, Err, OnOk, OnErr, IfOk};
 ghost use Rattle.std.specs.List.{flat_map};
-ghost use Rattle.tx_model.specs.Applications.{is_key};
-ghost use Rattle.schedule_text.specs.Outcomes.{phase_text, hex_byte, lock_text, refusal_text, read_refusal_text, build_fault_text, brief_text, item_text, next_item, items_text, outcome_text};
+ghost use Rattle.schedule_text.specs.Outcomes.{party_text, state_text, refusal_text, read_refusal_text, build_fault_text, item_text, next_item, items_text, node_text, server_text, entry_text, bytes_text, outcome_text};
 
-use crate::key::is_key;
-use crate::{Brief, Item, Outcome};
+use crate::message::{add_brief, add_build_fault, add_read_refusal, add_refusal, phase_word};
+use crate::words::add_named;
+use net_model::{Entry, Item, Outcome, Party};
 use proto_model::{BuildFault, Phase, ReadRefusal, Refusal};
 use std::alloc::{AllocError, Global};
-use tx_model::Lock;
 
 /// Room for the text of most outcomes.
 const ROOM: usize = 96;
 
-fn phase_word(phase: &Phase) -> &'static str
-    ensures { result.now ≡ phase_text phase.now }
+// Adds a party: a letter and its number.
+fn add_party(before: &[u8], party: Party, line: &mut Vec<u8>) -> Result<(), AllocError>
+    ensures { OnOk result (line.new.items ≡ line.old.items ++ (before.now ++ party_text party)) }
 {
-    match phase {
-        Phase::Idle => "idle",
-        Phase::Opening => "opening",
-        Phase::Fetching => "fetching",
-        Phase::Repairing => "repairing",
-        Phase::Running => "running",
-        Phase::Closed(_) => "closed",
+    line.extend_from_slice(before)?;
+    match party {
+        Party::Node(i) => add_named(b"n", u64::from(i), line),
+        Party::Server(v) => add_named(b"s", u64::from(v), line),
+        Party::Client(c) => add_named(b"c", u64::from(c), line),
     }
 }
 
-fn add_key(key: &[u8], text: &mut String) -> Result<(), AllocError>
-    requires { is_key key.now ≡ true }
-    ensures { OnOk result (string_bytes text.new ≡ string_bytes text.old ++ key.now) }
+fn add_item(alloc: Global, item: &Item, line: &mut Vec<u8>) -> Result<(), AllocError>
+    ensures { OnOk result (line.new.items ≡ line.old.items ++ item_text item.now) }
 {
-    for byte in key {
-        text.push(char::from(*byte))?;
-    }
-    Ok(())
-}
-
-fn add_hex(bytes: &[u8], text: &mut String) -> Result<(), AllocError>
-    ensures { OnOk result (string_bytes text.new ≡ string_bytes text.old ++ flat_map hex_byte bytes.now) }
-{
-    for byte in bytes {
-        write!(text, "{byte:02x}")?;
-    }
-    Ok(())
-}
-
-// Adds a lock: a key as it stands, and another name in hexadecimal.
-fn add_lock(lock: &Lock, text: &mut String) -> Result<(), AllocError>
-    ensures { OnOk result (string_bytes text.new ≡ string_bytes text.old ++ lock_text lock.now) }
-{
-    let bytes = lock.bytes();
-    if is_key(bytes) {
-        return add_key(bytes, text);
-    }
-    text.push_str("0x")?;
-    add_hex(bytes, text)
-}
-
-fn add_not_running(phase: &Phase, text: &mut String) -> Result<(), AllocError>
-    ensures { OnOk result (string_bytes text.new ≡ string_bytes text.old ++ (codes "notrunning " ++ phase_text phase.now)) }
-{
-    text.push_str("notrunning ")?;
-    text.push_str(phase_word(phase))
-}
-
-fn add_refusal(refusal: &Refusal, text: &mut String) -> Result<(), AllocError>
-    ensures { OnOk result (string_bytes text.new ≡ string_bytes text.old ++ refusal_text refusal.now) }
-{
-    match refusal {
-        Refusal::NotRunning(phase) => add_not_running(phase, text),
-        Refusal::Closed(session) => write!(text, "closed {session}"),
-        Refusal::MarkAhead(last) => write!(text, "markahead {last}"),
-        Refusal::Locked(lock, mark) => {
-            text.push_str("locked ")?;
-            add_lock(lock, text)?;
-            write!(text, " {mark}")
-        }
-        Refusal::WindowFull => text.push_str("windowfull"),
-        Refusal::LogFull => text.push_str("logfull"),
-    }
-}
-
-fn add_read_refusal(refusal: &ReadRefusal, text: &mut String) -> Result<(), AllocError>
-    ensures { OnOk result (string_bytes text.new ≡ string_bytes text.old ++ read_refusal_text refusal.now) }
-{
-    match refusal {
-        ReadRefusal::NotRunning(phase) => add_not_running(phase, text),
-        ReadRefusal::BadId => text.push_str("badid"),
-        ReadRefusal::NotYet(committed) => write!(text, "notyet {committed}"),
-    }
-}
-
-fn add_build_fault(fault: &BuildFault, text: &mut String) -> Result<(), AllocError>
-    ensures { OnOk result (string_bytes text.new ≡ string_bytes text.old ++ build_fault_text fault.now) }
-{
-    match fault {
-        BuildFault::BadOps(at) => write!(text, "badops {at}"),
-        BuildFault::TooManyLocks => text.push_str("toomanylocks"),
-        BuildFault::DoubleLock => text.push_str("doublelock"),
-        BuildFault::PayloadTooLong => text.push_str("payloadtoolong"),
-        BuildFault::Unlocked(key) => {
-            text.push_str("unlocked ")?;
-            add_lock(key, text)
-        }
-        BuildFault::LastRequest => text.push_str("lastrequest"),
-        BuildFault::Memory => Ok(()),
-    }
-}
-
-fn add_brief(brief: &Brief, text: &mut String) -> Result<(), AllocError>
-    ensures { OnOk result (string_bytes text.new ≡ string_bytes text.old ++ brief_text brief.now) }
-{
-    match brief {
-        Brief::Open(s) => write!(text, "open {s}"),
-        Brief::Fetch(s, from, max) => write!(text, "fetch {s} {from} {max}"),
-        Brief::Stage(s, first, count) => write!(text, "stage {s} {first} {count}"),
-        Brief::Adopt(s, length) => write!(text, "adopt {s} {length}"),
-        Brief::Append(s, first, count) => write!(text, "append {s} {first} {count}"),
-        Brief::Low(s, k) => write!(text, "low {s} {k}"),
-        Brief::Opened(s, adopted, low, len) => write!(text, "opened {s} {adopted} {low} {len}"),
-        Brief::Stale(s, p) => write!(text, "stale {s} {p}"),
-        Brief::Unopened(s, p) => write!(text, "unopened {s} {p}"),
-        Brief::Records(s, first, count) => write!(text, "records {s} {first} {count}"),
-        Brief::Staged(s, upto) => write!(text, "staged {s} {upto}"),
-        Brief::StageAt(s, next) => write!(text, "stageat {s} {next}"),
-        Brief::Adopted(s, length) => write!(text, "adopted {s} {length}"),
-        Brief::Acked(s, length) => write!(text, "acked {s} {length}"),
-        Brief::Gap(s, length) => write!(text, "gap {s} {length}"),
-        Brief::NotAdopted(s, adopted) => write!(text, "notadopted {s} {adopted}"),
-        Brief::LowSet(s, low) => write!(text, "lowset {s} {low}"),
-        Brief::Submit(request) => write!(text, "append {request}"),
-        Brief::Feed(from, max) => write!(text, "feed {from} {max}"),
-        Brief::Get(id) => write!(text, "get {id}"),
-        Brief::Flush => text.push_str("flush"),
-        Brief::Committed(request, id) => write!(text, "committed {request} {id}"),
-        Brief::Pending(request, id) => write!(text, "pending {request} {id}"),
-        Brief::Refused(request, refusal) => {
-            write!(text, "refused {request} ")?;
-            add_refusal(refusal, text)
-        }
-        Brief::Heads(from, count, mark) => write!(text, "heads {from} {count} {mark}"),
-        Brief::Entry(id) => write!(text, "entry {id}"),
-        Brief::Flushed(committed) => write!(text, "flushed {committed}"),
-        Brief::Unserved(refusal) => {
-            text.push_str("unserved ")?;
-            add_read_refusal(refusal, text)
-        }
-    }
-}
-
-fn add_item(item: &Item, text: &mut String) -> Result<(), AllocError>
-    ensures { OnOk result (string_bytes text.new ≡ string_bytes text.old ++ item_text item.now) }
-{
-    let number = item.number;
-    let from = item.from;
-    let to = item.to;
-    write!(text, "{number} {from}>{to} ")?;
-    add_brief(&item.brief, text)
+    add_named(b"", u64::from(item.number), line)?;
+    add_party(b" ", item.from, line)?;
+    add_party(b">", item.to, line)?;
+    line.push(b' ')?;
+    add_brief(alloc, &item.brief, line)
 }
 
 // Adds items with a comma and a space before each.
-fn add_more(items: &[Item], text: &mut String) -> Result<(), AllocError>
-    ensures { OnOk result (string_bytes text.new ≡ string_bytes text.old ++ flat_map next_item items.now) }
+fn add_more(alloc: Global, items: &[Item], line: &mut Vec<u8>) -> Result<(), AllocError>
+    ensures { OnOk result (line.new.items ≡ line.old.items ++ flat_map next_item items.now) }
 {
     for item in items {
-        text.push_str(", ")?;
-        add_item(item, text)?;
+        line.extend_from_slice(b", ")?;
+        add_item(alloc, item, line)?;
     }
     Ok(())
 }
 
-fn add_items(items: &[Item], text: &mut String) -> Result<(), AllocError>
-    ensures { OnOk result (string_bytes text.new ≡ string_bytes text.old ++ items_text items.now) }
+fn add_items(alloc: Global, items: &[Item], line: &mut Vec<u8>) -> Result<(), AllocError>
+    ensures { OnOk result (line.new.items ≡ line.old.items ++ (codes "sent " ++ items_text items.now)) }
 {
+    line.extend_from_slice(b"sent ")?;
     match items.split_first() {
         Some((first, rest)) => {
-            add_item(first, text)?;
-            add_more(rest, text)
+            add_item(alloc, first, line)?;
+            add_more(alloc, rest, line)
         }
         None => Ok(()),
     }
 }
 
-// The line of an outcome, without its line feed.
-fn line_of(alloc: Global, o: &Outcome) -> Result<Vec<u8>, AllocError>
-    ensures { IfOk result (λ line. line.items ≡ outcome_text o.now) }
+// Adds a node: its number, its promised and adopted session, its low-water mark and its length.
+fn add_node(
+    node: u8,
+    promised: u64,
+    adopted: u64,
+    low: u64,
+    length: u64,
+    line: &mut Vec<u8>,
+) -> Result<(), AllocError>
+    ensures { OnOk result (line.new.items ≡ line.old.items ++ node_text node promised adopted low length) }
 {
-    let mut line = String::with_capacity(alloc, ROOM)?;
-    match o {
-        Outcome::Read(number) => write!(line, "read {number}")?,
-        Outcome::Won(session) => write!(line, "won {session}")?,
-        Outcome::Lost(number) => write!(line, "lost {number}")?,
-        Outcome::Exhausted => line.push_str("exhausted")?,
-        Outcome::Unread => line.push_str("unread")?,
-        Outcome::Sent(items) => {
-            line.push_str("sent ")?;
-            add_items(items.items(), &mut line)?
-        }
-        Outcome::Quiet => line.push_str("quiet")?,
-        Outcome::NoEnvelope => line.push_str("none")?,
-        Outcome::Refused(fault) => {
-            line.push_str("refused ")?;
-            add_build_fault(fault, &mut line)?
-        }
-        Outcome::Client(client, mark) => write!(line, "client {client} mark {mark}")?,
-        Outcome::App(client, mark, text) => {
-            write!(line, "app {client} mark={mark}")?;
-            let mut bytes = line.into_bytes();
-            bytes.extend_from_slice(text.items())?;
-            return Ok(bytes);
+    add_named(b"n", u64::from(node), line)?;
+    add_named(b" p=", promised, line)?;
+    add_named(b" a=", adopted, line)?;
+    add_named(b" w=", low, line)?;
+    add_named(b" len=", length, line)
+}
+
+// Adds a phase, and the session that closed the server.
+fn add_phase(phase: &Phase, line: &mut Vec<u8>) -> Result<(), AllocError>
+    ensures { OnOk result (line.new.items ≡ line.old.items ++ state_text phase.now) }
+{
+    match phase {
+        Phase::Closed(session) => add_named(b" closed by=", *session, line),
+        _ => {
+            line.push(b' ')?;
+            line.extend_from_slice(phase_word(phase))
         }
     }
-    Ok(line.into_bytes())
+}
+
+// Adds a server that is not idle: its number, phase, session, last id and committed mark.
+fn add_server(
+    server: u8,
+    phase: &Phase,
+    session: u64,
+    last: u64,
+    committed: u64,
+    line: &mut Vec<u8>,
+) -> Result<(), AllocError>
+    ensures { OnOk result (line.new.items ≡ line.old.items ++ server_text server phase.now session last committed) }
+{
+    add_named(b"s", u64::from(server), line)?;
+    add_phase(phase, line)?;
+    add_named(b" session=", session, line)?;
+    add_named(b" last=", last, line)?;
+    add_named(b" committed=", committed, line)
+}
+
+fn add_entry(entry: &Entry, line: &mut Vec<u8>) -> Result<(), AllocError>
+    ensures { OnOk result (line.new.items ≡ line.old.items ++ entry_text entry.now) }
+{
+    add_named(b" ", entry.id, line)?;
+    add_named(b"/", entry.session, line)?;
+    add_named(b"/", entry.client, line)?;
+    add_named(b".", entry.request, line)
+}
+
+fn add_entries(length: u64, entries: &[Entry], line: &mut Vec<u8>) -> Result<(), AllocError>
+    ensures { OnOk result (line.new.items ≡ line.old.items ++ outcome_text (Outcome.Log length entries.now)) }
+{
+    add_named(b"log len=", length, line)?;
+    for entry in entries {
+        add_entry(entry, line)?;
+    }
+    Ok(())
+}
+
+// Adds bytes in hexadecimal, or a hyphen for none.
+fn add_bytes(alloc: Global, length: u64, bytes: &[u8], line: &mut Vec<u8>) -> Result<(), AllocError>
+    ensures { OnOk result (line.new.items ≡ line.old.items ++ outcome_text (Outcome.Dump length bytes.now)) }
+{
+    add_named(b"dump len=", length, line)?;
+    if bytes.is_empty() {
+        return line.extend_from_slice(b" -");
+    }
+    let digits = hex::encode(alloc, bytes)?;
+    line.push(b' ')?;
+    line.extend_from_slice(digits.as_bytes())
+}
+
+fn add_app(client: u8, mark: u64, text: &[u8], line: &mut Vec<u8>) -> Result<(), AllocError>
+    ensures { OnOk result (line.new.items ≡ line.old.items ++ outcome_text (Outcome.App client mark text.now)) }
+{
+    add_named(b"app ", u64::from(client), line)?;
+    add_named(b" mark=", mark, line)?;
+    line.extend_from_slice(text)
+}
+
+fn add_client(client: u8, mark: u64, line: &mut Vec<u8>) -> Result<(), AllocError>
+    ensures { OnOk result (line.new.items ≡ line.old.items ++ outcome_text (Outcome.Client client mark)) }
+{
+    add_named(b"client ", u64::from(client), line)?;
+    add_named(b" mark ", mark, line)
+}
+
+fn add_torn(
+    node: u8,
+    promised: u64,
+    adopted: u64,
+    low: u64,
+    length: u64,
+    line: &mut Vec<u8>,
+) -> Result<(), AllocError>
+    ensures { OnOk result (line.new.items ≡ line.old.items ++ outcome_text (Outcome.Torn node promised adopted low length)) }
+{
+    line.extend_from_slice(b"torn ")?;
+    add_node(node, promised, adopted, low, length, line)
+}
+
+fn add_idle(server: u8, line: &mut Vec<u8>) -> Result<(), AllocError>
+    ensures { OnOk result (line.new.items ≡ line.old.items ++ outcome_text (Outcome.Idle server)) }
+{
+    add_named(b"s", u64::from(server), line)?;
+    line.extend_from_slice(b" idle")
+}
+
+fn add_refused(alloc: Global, fault: &BuildFault, line: &mut Vec<u8>) -> Result<(), AllocError>
+    ensures { OnOk result (line.new.items ≡ line.old.items ++ outcome_text (Outcome.Refused fault.now)) }
+{
+    line.extend_from_slice(b"refused ")?;
+    add_build_fault(alloc, fault, line)
+}
+
+fn add_outcome(alloc: Global, o: &Outcome, line: &mut Vec<u8>) -> Result<(), AllocError>
+    ensures { OnOk result (line.new.items ≡ line.old.items ++ outcome_text o.now) }
+{
+    match o {
+        Outcome::Read(number) => add_named(b"read ", *number, line),
+        Outcome::Won(session) => add_named(b"won ", *session, line),
+        Outcome::Lost(number) => add_named(b"lost ", *number, line),
+        Outcome::Exhausted => line.extend_from_slice(b"exhausted"),
+        Outcome::Unread => line.extend_from_slice(b"unread"),
+        Outcome::Wasted(number) => add_named(b"wasted ", *number, line),
+        Outcome::Sent(items) => add_items(alloc, items.items(), line),
+        Outcome::Quiet => line.extend_from_slice(b"quiet"),
+        Outcome::NoEnvelope => line.extend_from_slice(b"none"),
+        Outcome::Skipped(envelope) => add_named(b"skipped ", u64::from(*envelope), line),
+        Outcome::Torn(i, p, a, w, len) => add_torn(*i, *p, *a, *w, *len, line),
+        Outcome::Node(i, p, a, w, len) => add_node(*i, *p, *a, *w, *len, line),
+        Outcome::Idle(v) => add_idle(*v, line),
+        Outcome::Server(v, phase, session, last, committed) => {
+            add_server(*v, phase, *session, *last, *committed, line)
+        }
+        Outcome::Client(client, mark) => add_client(*client, *mark, line),
+        Outcome::Refused(fault) => add_refused(alloc, fault, line),
+        Outcome::App(client, mark, text) => add_app(*client, *mark, text.items(), line),
+        Outcome::Log(len, entries) => add_entries(*len, entries.items(), line),
+        Outcome::Dump(len, bytes) => add_bytes(alloc, *len, bytes.items(), line),
+    }
 }
 
 /// Adds the line of an outcome, without its line feed.
@@ -219,7 +215,8 @@ pub fn print_outcome(alloc: Global, o: &Outcome, into: &mut Vec<u8>) -> Result<(
     ensures ok { OnOk result (into.new.items ≡ into.old.items ++ outcome_text o.now) }
     ensures err { OnErr result (into.new.items ≡ into.old.items) }
 {
-    let line = line_of(alloc, o)?;
+    let mut line = Vec::with_capacity(alloc, ROOM)?;
+    add_outcome(alloc, o, &mut line)?;
     into.extend_from_slice(&line)
 }
 
@@ -228,9 +225,9 @@ pub fn print_refusal(alloc: Global, r: &Refusal, into: &mut Vec<u8>) -> Result<(
     ensures ok { OnOk result (into.new.items ≡ into.old.items ++ refusal_text r.now) }
     ensures err { OnErr result (into.new.items ≡ into.old.items) }
 {
-    let mut text = String::with_capacity(alloc, ROOM)?;
-    add_refusal(r, &mut text)?;
-    into.extend_from_slice(text.as_bytes())
+    let mut text = Vec::with_capacity(alloc, ROOM)?;
+    add_refusal(alloc, r, &mut text)?;
+    into.extend_from_slice(&text)
 }
 
 /// Adds a server's reason to show no part of its log.
@@ -242,9 +239,9 @@ pub fn print_read_refusal(
     ensures ok { OnOk result (into.new.items ≡ into.old.items ++ read_refusal_text r.now) }
     ensures err { OnErr result (into.new.items ≡ into.old.items) }
 {
-    let mut text = String::with_capacity(alloc, ROOM)?;
+    let mut text = Vec::with_capacity(alloc, ROOM)?;
     add_read_refusal(r, &mut text)?;
-    into.extend_from_slice(text.as_bytes())
+    into.extend_from_slice(&text)
 }
 
 /// Adds a client's reason to build no transaction. Want of memory has no text.
@@ -256,7 +253,7 @@ pub fn print_build_fault(
     ensures ok { OnOk result (into.new.items ≡ into.old.items ++ build_fault_text f.now) }
     ensures err { OnErr result (into.new.items ≡ into.old.items) }
 {
-    let mut text = String::with_capacity(alloc, ROOM)?;
-    add_build_fault(f, &mut text)?;
-    into.extend_from_slice(text.as_bytes())
+    let mut text = Vec::with_capacity(alloc, ROOM)?;
+    add_build_fault(alloc, f, &mut text)?;
+    into.extend_from_slice(&text)
 }

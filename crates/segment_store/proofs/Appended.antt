@@ -13,7 +13,7 @@ use Rattle.disk_model.proofs.Walks.{all-append, joined-append, frames_in-joined,
 use Rattle.disk_model.proofs.Images.{empty, image_settled}
 use Rattle.disk_model.proofs.Moments.{weaker}
 use Rattle.disk_model.proofs.Appends.{append_writes, append_syncs, reads_mid}
-use Rattle.segment_store.specs.Records.{records_of, records_in, frames_of, HasPrefixOf, EachImageHolds}
+use Rattle.segment_store.specs.Records.{records_of, records_in, frames_of, HasPrefixOf}
 use Rattle.segment_store.specs.Index.{Index, count_of, starts_of, IsTidy, IsLoadable}
 use Rattle.segment_store.proofs.Indexing.{framing, index-count, index-frames, records_of-append, length-records_of, starts_of-append}
 use Rattle.segment_store.proofs.Encoded.{frames_of-frames, records_of-frames_of, length-frames_of}
@@ -67,6 +67,10 @@ prefix-loadable s old new now rise count ids found =
     }
 
 -- ---- the write and the sync
+
+-- the records in each image as put have P
+abbrev pub EachImageHolds : (List Record → Type 0) → File → Type 0
+EachImageHolds P file = EachImage record_len (λ frames. P (records_of frames)) file
 
 module _ (file : ℕ) (s : Index) (end : ℕ) (end_is : end ≡ s.end) (old : History) (tidy : IsTidy s (old.now file)) (rs : List Record) (ids : RiseByOne (s.first + count_of s) rs) (bytes : List ℕ) (bytes_are : bytes ≡ joined (frames_of rs)) where
   abbrev fs : List (List ℕ)

@@ -1,21 +1,16 @@
 -- Where records stand: one more, some fewer, and what a place that is refused says.
-use Rattle.std.proofs.Common.{◌≡◌, ◌≢◌, inl, inr, ℕ, zero, suc, ◌+◌, ◌-◌, ◌<◌, ◌≤◌, List, [], ◌∷◌, ◌++◌, length, take, drop, get_or, refl, sym, ◌∙◌, ap, subst, arith, append_assoc, length-append, take-append-drop, Some}
-use Rattle.std.specs.Prelude.{slice_get}
+use Rattle.std.proofs.Common.{◌≡◌, ◌≢◌, inr, ℕ, zero, suc, ◌+◌, ◌-◌, ◌<◌, ◌≤◌, List, [], ◌∷◌, ◌++◌, length, take, drop, get_or, refl, sym, ◌∙◌, ap, subst, arith, append_assoc, length-append, take-append-drop}
 use Rattle.std.specs.List.{AllByRecursion}
-use Rattle.std.proofs.lemmas.List.{append-nil, map-append, length-map, drop_at, take-append-le, drop-append-le, length-take-le, drop-drop, take_all, get_or_past, get_or-map}
-use Rattle.std.proofs.lemmas.Bool.{cases_lt}
+use Rattle.std.proofs.lemmas.List.{append-nil, map-append, length-map, drop_at, take-append-le, length-take-le, drop-drop, take_all}
 use Rattle.tx_model.specs.declared.record.Record.{Record}
 use Rattle.tx_model.specs.Records.{IsRecord, RiseByOne}
-use Rattle.std.proofs.lemmas.Option.{slice_get-get_or}
-use Rattle.std.proofs.Math.ListN.{get_or-append}
-use Rattle.std.proofs.Math.Seq.{take-suc, drop-cons}
-use Rattle.tx_model.proofs.Batches.{RiseByOne-append, RiseByOne-front, RiseByOne-id}
+use Rattle.tx_model.proofs.Batches.{RiseByOne-append, RiseByOne-front}
 use Rattle.record_frame.specs.Framing.{record_len, framed_record}
 use Rattle.record_frame.proofs.Parts.{IsBytes}
 use Rattle.record_frame.proofs.FrontFrames.{record_len-within, record_len-alike, framed_record-alike, framed-spells}
 use Rattle.disk_model.specs.Frames.{IsFrame, IsFraming, joined, frames_in}
 use Rattle.disk_model.proofs.Walks.{joined-append, all-append, split, frames_in-joined}
-use Rattle.segment_store.specs.Records.{records_of, records_in}
+use Rattle.segment_store.specs.Records.{records_of}
 use Rattle.segment_store.specs.Index.{Index, count_of, starts_of, IsIndexOf, IsDamagedAt}
 
 -- ---- the framing of records
@@ -30,7 +25,7 @@ front bs some =
     (record_len-alike bs f some (omega arith) same, framed_record-alike bs f some (omega arith) same)
 
 -- what follows a frame doesn't matter
-behind : (f rest : List ℕ) → IsFrame record_len f → (record_len (f ++ rest) ≡ length f) × (framed_record (f ++ rest) ≡ framed_record f)
+pub behind : (f rest : List ℕ) → IsFrame record_len f → (record_len (f ++ rest) ≡ length f) × (framed_record (f ++ rest) ≡ framed_record f)
 behind f rest is =
     let whole : record_len f ≡ length f = is.whole in
     let some : 0 < record_len f = omega (arith, is.some) in
@@ -70,7 +65,7 @@ pub starts_of-one : (at : ℕ) (f : List ℕ) → starts_of at (f ∷ []) ≡ at
 unfolding starts_of
 starts_of-one at f = refl
 
-joined-one : (fs : List (List ℕ)) (f : List ℕ) → joined (fs ++ f ∷ []) ≡ joined fs ++ f
+pub joined-one : (fs : List (List ℕ)) (f : List ℕ) → joined (fs ++ f ∷ []) ≡ joined fs ++ f
 joined-one fs f = joined-append fs (f ∷ []) ∙ ap (λ (l : List ℕ). joined fs ++ l) (append-nil f)
 
 pub rise_one : (id : ℕ) (r : Record) → IsRecord r → r.id ≡ id → RiseByOne id (r ∷ [])
@@ -151,12 +146,12 @@ module _ (s : Index) (bytes more all : List ℕ) (at_end : drop s.end all ≡ by
 
 -- ---- the record at a place
 
-all-take : {A : Type 0} (P : A → Type 0) (k : ℕ) (xs : List A) → AllByRecursion P xs → AllByRecursion P (take k xs)
+pub all-take : {A : Type 0} (P : A → Type 0) (k : ℕ) (xs : List A) → AllByRecursion P xs → AllByRecursion P (take k xs)
 all-take P zero xs all = tt
 all-take P (suc k) [] all = tt
 all-take P (suc k) (x ∷ xs) all = (all.0, all-take P k xs all.1)
 
-all-drop : {A : Type 0} (P : A → Type 0) (k : ℕ) (xs : List A) → AllByRecursion P xs → AllByRecursion P (drop k xs)
+pub all-drop : {A : Type 0} (P : A → Type 0) (k : ℕ) (xs : List A) → AllByRecursion P xs → AllByRecursion P (drop k xs)
 all-drop P zero xs all = all
 all-drop P (suc k) [] all = tt
 all-drop P (suc k) (x ∷ xs) all = all-drop P k xs all.1
@@ -167,14 +162,14 @@ take-starts_of zero at fs = refl
 take-starts_of (suc k) at [] = refl
 take-starts_of (suc k) at (f ∷ fs) = ap (λ (l : List ℕ). at ∷ l) (take-starts_of k (at + length f) fs)
 
-get_or-starts_of : (k at : ℕ) (fs : List (List ℕ)) (d : ℕ) → k < length fs → get_or (starts_of at fs) k d ≡ at + length (joined (take k fs))
+pub get_or-starts_of : (k at : ℕ) (fs : List (List ℕ)) (d : ℕ) → k < length fs → get_or (starts_of at fs) k d ≡ at + length (joined (take k fs))
 unfolding starts_of
 get_or-starts_of k at [] d lt = absurd (omega arith)
 get_or-starts_of zero at (f ∷ fs) d lt = omega arith
 get_or-starts_of (suc k) at (f ∷ fs) d lt =
     omega (arith, get_or-starts_of k (at + length f) fs d (omega arith), length-append f (joined (take k fs)))
 
-split_at : (k : ℕ) (fs : List (List ℕ)) → joined fs ≡ joined (take k fs) ++ joined (drop k fs)
+pub split_at : (k : ℕ) (fs : List (List ℕ)) → joined fs ≡ joined (take k fs) ++ joined (drop k fs)
 split_at k fs = ap joined (sym (take-append-drop k fs)) ∙ joined-append (take k fs) (drop k fs)
 
 -- the first records alone
@@ -222,90 +217,7 @@ damaged-as first first' count at at' bytes same_first same_at is =
 
 -- ---- on through the bytes that were read
 
--- what is left of them stands at the later place
-pub moved : (all bytes rest more : List ℕ) (old now : ℕ) → drop old all ≡ bytes ++ more → old ≤ now → now - old ≤ length bytes → rest ≡ drop (now - old) bytes → drop now all ≡ rest ++ more
-moved all bytes rest more old now at_end later used rest_is =
-    let there : old + (now - old) ≡ now = omega arith in
-    ap (λ (n : ℕ). drop n all) (sym there) ∙ sym (drop-drop (now - old) old all) ∙ ap (λ (l : List ℕ). drop (now - old) l) at_end
-    ∙ drop-append-le (now - old) bytes more used ∙ ap (λ (l : List ℕ). l ++ more) (sym rest_is)
-
 pub further : (bytes rest : List ℕ) (old now n : ℕ) → old ≤ now → rest ≡ drop (now - old) bytes → drop n rest ≡ drop ((now + n) - old) bytes
 further bytes rest old now n later rest_is =
     let there : (now - old) + n ≡ (now + n) - old = omega arith in
     ap (λ (l : List ℕ). drop n l) rest_is ∙ drop-drop n (now - old) bytes ∙ ap (λ (k : ℕ). drop k bytes) there
-
--- ---- the record with an id
-
-get-all : {A : Type 0} (P : A → Type 0) (k : ℕ) (xs : List A) (d : A) → k < length xs → AllByRecursion P xs → P (get_or xs k d)
-get-all P k [] d lt all = absurd (omega arith)
-get-all P zero (x ∷ xs) d lt all = all.0
-get-all P (suc k) (x ∷ xs) d lt all = get-all P k xs d (omega arith) all.1
-
--- a frame stands between two places of the file, and its record has its place there
-pub record IsPlaced (s : Index) (all : List ℕ) (k at end : ℕ) : Type 0 where
-  pub frame : List ℕ
-  pub more : List ℕ
-  pub is : drop at all ≡ frame ++ more
-  pub whole : IsFrame record_len frame
-  pub long : at + length frame ≡ end
-  pub within : end ≤ length all
-  pub id : (framed_record frame).id ≡ s.first + k
-  pub found : slice_get (records_in all) k ≡ Some (framed_record frame)
-
-module _ (s : Index) (all : List ℕ) (index : IsIndexOf s all) (k : ℕ) (lt : k < count_of s) where
-  abbrev fs : List (List ℕ)
-  fs = index.frames
-
-  few : k < length fs
-  few = omega (arith, lt, index-count s all index)
-
-  abbrev frame : List ℕ
-  frame = get_or fs k []
-
-  behind_it : List ℕ
-  behind_it = joined (drop (suc k) fs) ++ index.rest
-
-  parts : all ≡ joined (take k fs) ++ (frame ++ (joined (drop (suc k) fs) ++ index.rest))
-  parts =
-      index.is ∙ ap (λ (l : List ℕ). l ++ index.rest) (split_at k fs) ∙ append_assoc (joined (take k fs)) (joined (drop k fs)) index.rest
-      ∙ ap (λ (gs : List (List ℕ)). joined (take k fs) ++ (joined gs ++ index.rest)) (drop-cons fs k [] few)
-      ∙ ap (λ (l : List ℕ). joined (take k fs) ++ l) (append_assoc frame (joined (drop (suc k) fs)) index.rest)
-
-  begins : get_or s.starts k 0 ≡ length (joined (take k fs))
-  begins = ap (λ (l : List ℕ). get_or l k 0) index.starts ∙ get_or-starts_of k 0 fs 0 few ∙ omega arith
-
-  next_front : length (joined (take (suc k) fs)) ≡ length (joined (take k fs)) + length frame
-  next_front = ap (λ (gs : List (List ℕ)). length (joined gs)) (take-suc fs k [] few) ∙ ap length (joined-one (take k fs) frame) ∙ length-append (joined (take k fs)) frame
-
-  ends : get_or s.starts (k + 1) s.end ≡ length (joined (take (suc k) fs))
-  ends =
-      let one : k + 1 ≡ suc k = omega arith in
-      ap (λ (n : ℕ). get_or s.starts n s.end) one ∙ elim (cases_lt (suc k) (length fs)) [
-        | inl inner ↦ ap (λ (l : List ℕ). get_or l (suc k) s.end) index.starts ∙ get_or-starts_of (suc k) 0 fs s.end inner ∙ omega arith
-        | inr last ↦ get_or_past s.starts (suc k) s.end (omega (arith, index-count s all index, last)) ∙ index.end ∙ ap (λ (gs : List (List ℕ)). length (joined gs)) (sym (take_all (suc k) fs last))
-      ]
-
-  its_record : get_or (records_of fs) k (framed_record []) ≡ framed_record frame
-  its_record = get_or-map framed_record fs k [] (framed_record []) few
-
-  pub placed : IsPlaced s all k (get_or s.starts k 0) (get_or s.starts (k + 1) s.end)
-  placed =
-      let rs = records_of fs in
-      let rest = records_of (frames_in record_len index.rest) in
-      let in_records : k < length rs = omega (arith, few, length-records_of fs) in
-      let same : records_in all ≡ rs ++ rest = ap records_of (index-frames s all index) ∙ records_of-append fs (frames_in record_len index.rest) in
-      let longer : length (records_in all) ≡ length rs + length rest = ap length same ∙ length-append rs rest in
-      let size : length all ≡ length (joined (take k fs)) + (length frame + length (joined (drop (suc k) fs) ++ index.rest)) =
-      ap length parts ∙ length-append (joined (take k fs)) (frame ++ (joined (drop (suc k) fs) ++ index.rest)) ∙ ap (λ (n : ℕ). length (joined (take k fs)) + n) (length-append frame (joined (drop (suc k) fs) ++ index.rest)) in
-      record {
-        frame = frame;
-        more = joined (drop (suc k) fs) ++ index.rest;
-        is = ap (λ (n : ℕ). drop n all) begins ∙ ap (λ (l : List ℕ). drop (length (joined (take k fs))) l) parts ∙ drop_at (joined (take k fs)) (frame ++ (joined (drop (suc k) fs) ++ index.rest)) (length (joined (take k fs))) refl;
-        whole = get-all (IsFrame record_len) k fs [] few index.whole;
-        long = omega (arith, begins, ends, next_front);
-        within = omega (arith, ends, next_front, size);
-        id = ap (λ (r : Record). r.id) (sym its_record) ∙ RiseByOne-id s.first rs k (framed_record []) index.ids in_records;
-        found =
-            slice_get-get_or (records_in all) k (framed_record []) (omega (arith, longer, in_records))
-            ∙ ap (λ (r : Record). Some r) (ap (λ (l : List Record). get_or l k (framed_record [])) same ∙ get_or-append rs rest (framed_record []) k in_records ∙ its_record);
-      }

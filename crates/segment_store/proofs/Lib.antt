@@ -1,7 +1,4 @@
-pub mod Pieces
 pub mod Indexing
-pub mod Answers
-pub mod Stretches
 pub mod Loaded
 pub mod Encoded
 pub mod Appended

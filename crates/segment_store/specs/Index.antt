@@ -1,5 +1,5 @@
 -- Where the records of a file stand.
-use Rattle.std.specs.Prelude.{◌≡◌, ◌≢◌, ◌⊎◌, ℕ, ◌+◌, ◌-◌, ◌<◌, ◌≤◌, List, [], ◌∷◌, ◌++◌, length, drop, slice_index}
+use Rattle.std.specs.Prelude.{◌≡◌, ◌≢◌, ◌⊎◌, ℕ, ◌+◌, ◌-◌, ◌<◌, ◌≤◌, List, [], ◌∷◌, ◌++◌, length, drop, min, nat_le, if◌then◌else◌, slice_index, slice_index_or}
 use Rattle.std.specs.List.{AllByRecursion}
 use Rattle.tx_model.specs.declared.record.Record.{Record}
 use Rattle.tx_model.specs.Records.{RiseByOne}
@@ -29,6 +29,14 @@ HasId s id = (s.first ≤ id) × (id < s.first + count_of s)
 -- where the frame of the record with this id begins
 abbrev pub start_of : Index → ℕ → ℕ
 start_of s id = slice_index s.starts (id - s.first)
+
+-- where the frame at this place among them begins, and behind the last one where that ends
+abbrev pub place_of : Index → ℕ → ℕ
+place_of s k = slice_index_or s.starts k s.end
+
+-- how many of so many ids from one on the segment has
+abbrev pub run_length : Index → ℕ → ℕ → ℕ
+run_length s from count = if nat_le s.first from then min count ((s.first + count_of s) - from) else 0
 
 -- where each of these frames begins, the first at a place
 unfoldable pub starts_of : ℕ → List (List ℕ) → List ℕ

@@ -1,4 +1,3 @@
 pub mod Records
 pub mod Index
-pub mod Faults
 pub mod Loading

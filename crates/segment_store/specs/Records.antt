@@ -4,7 +4,9 @@ use Rattle.tx_model.specs.declared.record.Record.{Record}
 use Rattle.tx_model.specs.Spelling.{record_frame}
 use Rattle.record_frame.specs.Framing.{record_len, framed_record}
 use Rattle.disk_model.specs.File.{File}
-use Rattle.disk_model.specs.Frames.{frames_in, EachImage}
+use Rattle.disk_model.specs.Frames.{frames_in}
+use Rattle.disk_model.specs.Chance.{EachLeft}
+use Rattle.disk_model.specs.History.{History}
 
 abbrev pub records_of : List (List ℕ) → List Record
 records_of frames = map framed_record frames
@@ -12,6 +14,10 @@ records_of frames = map framed_record frames
 -- the records of the whole and right frames at the front of these bytes
 abbrev pub records_in : List ℕ → List Record
 records_in bytes = records_of (frames_in record_len bytes)
+
+-- the records of a file now
+abbrev pub records_at : History → ℕ → List Record
+records_at h file = records_in (h.now file).reads
 
 -- the one frame of each record
 abbrev pub frames_of : List Record → List (List ℕ)
@@ -21,6 +27,6 @@ frames_of records = map record_frame records
 abbrev pub HasPrefixOf : List Record → List Record → List Record → Type 0
 HasPrefixOf old new now = (k : ℕ) × (k ≤ length new) × (now ≡ old ++ take k new)
 
--- the records in each image of the file that doesn't pass by chance have P
-abbrev pub EachImageHolds : (List Record → Type 0) → File → Type 0
-EachImageHolds P file = EachImage record_len (λ frames. P (records_of frames)) file
+-- whatever a crash may leave of the file holds records that have P
+abbrev pub EachLeftHolds : Type 0 → (List Record → Type 0) → File → Type 0
+EachLeftHolds plain P file = EachLeft plain record_len (λ frames. P (records_of frames)) file

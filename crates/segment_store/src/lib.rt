@@ -4,14 +4,9 @@
 #![tactic(auto)]
 
 mod appending;
-mod fault;
 mod getting;
 mod loading;
 mod segment;
-mod stretch;
 
-pub use fault::SegmentFault;
+pub use disk_model::LoadFault as SegmentFault;
 pub use segment::Segment;
-
-#[cfg(test)]
-mod tests;

@@ -2,8 +2,8 @@
 ghost use Rattle.std.specs.Prelude.{◌≡◌, ◌⊎◌, ◌↔◌, ℕ, List, ◌+◌, ◌-◌, ◌^◌, ◌<◌, ◌≤◌, ◌++◌, [], ◌∷◌, min, length, drop, OnOk, OnErr, IsErrOf, IsTrue};
 ghost use Rattle.record_frame.specs.Framing.{record_len};
 ghost use Rattle.segment_store.specs.Index.{count_of, IsIndexOf, IsDamagedAt};
-ghost use Rattle.segment_store.specs.Faults.{IfDamaged};
-ghost use Rattle.segment_store.specs.declared.fault.SegmentFault.TheVariants.{Disk as Broke};
+ghost use Rattle.disk_model.specs.LoadFaults.{IfDamaged};
+ghost use Rattle.disk_model.specs.declared.unloaded.LoadFault.TheVariants.{Disk as Broke};
 
 use crate::SegmentFault;
 use record_frame::framed_id;
@@ -77,7 +77,8 @@ impl Segment {
         requires room { self.old.end + len < 2 ^ 64 }
         ensures place { (self.new.file ≡ self.old.file) × (self.new.first ≡ self.old.first) }
         ensures end { OnOk result (self.new.end ≡ self.old.end + len) }
-        ensures index { OnOk result ((all more : List ℕ) → drop self.old.end all ≡ bytes.now ++ more →
+        ensures index { OnOk result
+            ((all more : List ℕ) → drop self.old.end all ≡ bytes.now ++ more →
             IsIndexOf self.old all → IsIndexOf self.new all) }
         ensures damaged { IfDamaged result (λ file at. (file ≡ self.old.file) ×
             ((all more : List ℕ) (count : ℕ) → drop self.old.end all ≡ bytes.now ++ more →

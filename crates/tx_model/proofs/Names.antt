@@ -26,12 +26,14 @@ use Rattle.std.proofs.lemmas.Option.{slice_get_within, get_or_from_slice_get, sl
 
 -- ---- names that rise
 
+-- the names from a place on
+pub drop-next : (names : List (List ℕ)) (i : ℕ) (name : List ℕ) → i < length names → name ≡ get_or names i name → drop i names ≡ name ∷ drop (i + 1) names
+drop-next names i name lt at = rw add-one (drop-cons names i name lt ∙ ap (λ x. x ∷ drop (suc i) names) (sym at))
+
 -- one more name rises
 pub RiseFrom-more : (last name : List ℕ) (names : List (List ℕ)) (i : ℕ) → i < length names → name ≡ get_or names i name → IsName name → IsBefore last name → RiseFrom name (drop (i + 1) names) → RiseFrom last (drop i names)
 unfolding RiseFrom
-RiseFrom-more last name names i lt at is before rest =
-    let place : drop i names ≡ name ∷ drop (i + 1) names = rw add-one (drop-cons names i name lt ∙ ap (λ x. x ∷ drop (suc i) names) (sym at)) in
-    rw place (is, before, rest)
+RiseFrom-more last name names i lt at is before rest = let place = drop-next names i name lt at in rw place (is, before, rest)
 
 pub RiseFrom-none : (last : List ℕ) (names : List (List ℕ)) (i : ℕ) → length names ≤ i → RiseFrom last (drop i names)
 unfolding RiseFrom
@@ -48,14 +50,14 @@ Less-from_is_lt Less h = refl
 Less-from_is_lt Equal h = absurd cc
 Less-from_is_lt Greater h = absurd cc
 
-below_all : (name last : List ℕ) (names : List (List ℕ)) → slice_cmp nat_cmp name last ≡ Less → RiseFrom last names → AllByRecursion (λ y. slice_cmp nat_cmp name y ≡ Less) names
+pub below_all : (name last : List ℕ) (names : List (List ℕ)) → slice_cmp nat_cmp name last ≡ Less → RiseFrom last names → AllByRecursion (λ y. slice_cmp nat_cmp name y ≡ Less) names
 unfolding RiseFrom
 below_all name last [] less rise = tt
 below_all name last (n ∷ names) less rise =
     let further : slice_cmp nat_cmp name n ≡ Less = nat_list_cmp_total.trans name last n less (Less-from_is_lt _ rise.1) in
     (further, below_all name n names further rise.2)
 
-above_all : (last : List ℕ) (names : List (List ℕ)) → RiseFrom last names → AllByRecursion (λ y. slice_cmp nat_cmp last y ≡ Less) names
+pub above_all : (last : List ℕ) (names : List (List ℕ)) → RiseFrom last names → AllByRecursion (λ y. slice_cmp nat_cmp last y ≡ Less) names
 unfolding RiseFrom
 above_all last [] rise = tt
 above_all last (n ∷ names) rise = (Less-from_is_lt _ rise.1, below_all last n names (Less-from_is_lt _ rise.1) rise.2)
@@ -135,7 +137,7 @@ apart_with reads w writes none apart = rw (none, apart) refl
 Contains-later : (w : List ℕ) (writes : List (List ℕ)) (name : List ℕ) → Contains writes name → Contains (w ∷ writes) name
 Contains-later w writes name (k, lt, same) = (suc k, omega arith, same)
 
-not_true : (b : Bool) → (b ≡ true → ⊥) → b ≡ false
+pub not_true : (b : Bool) → (b ≡ true → ⊥) → b ≡ false
 not_true true h = absurd (h refl)
 not_true false h = refl
 
@@ -148,23 +150,12 @@ are_apart-from_none reads (w ∷ writes) none =
     (not_true (is_among w reads) (λ h. none w (Contains-from_is_among w reads h) (zero, omega arith, refl)))
     (are_apart-from_none reads writes (λ name in_reads in_writes. none name in_reads (Contains-later w writes name in_writes)))
 
--- ---- the test as a loop makes it
+-- ---- the same test as a search makes it
 
 pub list_any-is_among : (name : List ℕ) (names : List (List ℕ)) → list_any (λ other. bytes_eq other name) names ≡ is_among name names
 unfolding is_among
 list_any-is_among name [] = refl
 list_any-is_among name (n ∷ names) = rw (nat_list_eq_equiv.symm n name, list_any-is_among name names) refl
-
--- one more name of the second list, which the first has or not
-pub are_apart-drop : (reads writes : List (List ℕ)) (name : List ℕ) (i : ℕ) (found : Bool) → i < length writes → name ≡ get_or writes i name → found ≡ list_any (λ other. bytes_eq other name) reads → are_apart reads (drop i writes) ≡ (not found && are_apart reads (drop (i + 1) writes))
-unfolding are_apart
-are_apart-drop reads writes name i found lt at is =
-    let place : drop i writes ≡ name ∷ drop (i + 1) writes = rw add-one (drop-cons writes i name lt ∙ ap (λ x. x ∷ drop (suc i) writes) (sym at)) in
-    rw (place, is, list_any-is_among name reads) refl
-
-pub are_apart-done : (reads writes : List (List ℕ)) (i : ℕ) → length writes ≤ i → are_apart reads (drop i writes) ≡ true
-unfolding are_apart
-are_apart-done reads writes i le = let none : drop i writes ≡ [] = drop_of_length-le writes le in rw none refl
 
 -- ---- names that are all different
 

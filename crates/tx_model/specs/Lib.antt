@@ -1,4 +1,5 @@
 pub mod Transactions
+pub mod TxLayout
 pub mod Records
 pub mod Spelling
 pub mod Logs

@@ -13,6 +13,11 @@ pub record Transaction : Type 0 where
   pub writes : List (List ℕ)
   pub payload : List ℕ
 
+-- the transaction of these parts
+abbrev pub transaction_of : ℕ → ℕ → ℕ → List (List ℕ) → List (List ℕ) → List ℕ → Transaction
+transaction_of client request mark reads writes payload =
+    record { client = client; request = request; mark = mark; reads = reads; writes = writes; payload = payload }
+
 -- the locks that a transaction named: its read locks, then its write locks
 abbrev pub named_locks : Transaction → List (List ℕ)
 named_locks tx = tx.reads ++ tx.writes

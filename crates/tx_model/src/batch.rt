@@ -19,7 +19,7 @@ pub enum BatchFault {
 }
 
 /// One to eight records whose ids rise by one, as a message carries them.
-#[derive(Debug, Drop)]
+#[derive(Drop)]
 pub struct Batch {
     records: Vec<Record>,
 }

@@ -10,6 +10,9 @@ use std::cmp::Ordering;
 use std::marker::Model;
 use std::rc::RcSlice;
 
+/// Bytes of a lock's name at most.
+pub const MAX_NAME: usize = 64;
+
 /// The name of a lock, of 1 to 64 bytes. Copies share the bytes.
 #[derive(Debug, Drop)]
 pub struct Lock {
@@ -26,6 +29,16 @@ pub enum LockFault {
     Memory,
 }
 
+impl From<AllocError> for LockFault {
+    ghost use Rattle.tx_model.specs.declared.lock.LockFault.TheVariants.{Memory};
+
+    ghost from_gives = { λ _ fault. fault ≡ Memory };
+
+    fn from(_e: AllocError) -> LockFault {
+        LockFault::Memory
+    }
+}
+
 impl Model for Lock {
     ghost Value = { List ℕ };
 
@@ -39,18 +52,16 @@ impl Lock {
     pub fn new(alloc: Global, name: &[u8]) -> Result<Lock, LockFault>
         ensures ok { IfOk result (λ lock. lock ≡ name.now) }
         ensures empty { (result ≡ Err LockFault.Empty) ↔ (name.now ≡ []) }
-        ensures long { (result ≡ Err LockFault.TooLong) ↔ (64 < length name.now) }
+        ensures long { (result ≡ Err LockFault.TooLong) ↔ (MAX_NAME < length name.now) }
     {
         if name.is_empty() {
             return Err(LockFault::Empty);
         }
-        if name.len() > 64 {
+        if name.len() > MAX_NAME {
             return Err(LockFault::TooLong);
         }
-        match RcSlice::from_slice(alloc, name) {
-            Ok(name) => Ok(Lock { name }),
-            Err(_) => Err(LockFault::Memory),
-        }
+        let name = RcSlice::from_slice(alloc, name)?;
+        Ok(Lock { name })
     }
 
     /// The lock of bytes that are known to be a name, as a decoder has tested them.
@@ -80,7 +91,7 @@ impl Lock {
 }
 
 /// A list of locks, as a head, an event or a script line holds it.
-#[derive(Debug, Drop)]
+#[derive(Drop)]
 pub struct Locks {
     items: Vec<Lock>,
 }

@@ -1,5 +1,5 @@
 /// An entry of a storage node's or a register's journal of metadata: one change to what its files stand for.
-#[derive(Clone, Copy, Debug, PartialEq, Eq)]
+#[derive(Clone, Copy, PartialEq, Eq)]
 pub enum Meta {
     /// A promise to take part in no session below this one.
     Promise(u64),

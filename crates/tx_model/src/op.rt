@@ -1,7 +1,7 @@
 use crate::Lock;
 
 /// An operation of an application's op text, on one key.
-#[derive(Debug, Drop)]
+#[derive(Drop)]
 pub enum Op {
     /// The key has this number, from -1,000,000,000 to 1,000,000,000.
     Set(Lock, i64),

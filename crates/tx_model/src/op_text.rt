@@ -3,7 +3,7 @@ ghost use Rattle.std.specs.Prelude.{◌≡◌, List, ℕ};
 use std::marker::Model;
 
 /// The text of an application's operations, as a list of bytes that an event or a script line holds.
-#[derive(Debug, Drop)]
+#[derive(Drop)]
 pub struct OpText {
     bytes: Vec<u8>,
 }

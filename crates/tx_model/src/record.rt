@@ -5,8 +5,14 @@ use crate::{Locks, Tx};
 use std::alloc::{AllocError, Global};
 use std::marker::Model;
 
+/// The greatest place of a record, and the greatest number of a session: 2^48 - 1.
+pub const MAX_PLACE: u64 = 0xffff_ffff_ffff;
+
+/// Heads of a message at most.
+pub const MAX_HEADS: usize = 16;
+
 /// A transaction in its place in the log.
-#[derive(Debug, Drop)]
+#[derive(Drop)]
 pub struct Record {
     /// The place, from 1 to 2^48 - 1.
     pub id: u64,
@@ -16,7 +22,7 @@ pub struct Record {
 }
 
 /// A record without client, request and payload: what a client needs to know of a record before it asks for it whole.
-#[derive(Debug, Drop)]
+#[derive(Drop)]
 pub struct Head {
     pub id: u64,
     pub session: u64,
@@ -74,7 +80,7 @@ impl Head {
 }
 
 /// A list of heads, as a server's answer holds it.
-#[derive(Debug, Drop)]
+#[derive(Drop)]
 pub struct Heads {
     items: Vec<Head>,
 }

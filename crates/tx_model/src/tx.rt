@@ -1,12 +1,13 @@
 ghost use Rattle.std.specs.Prelude.{◌≡◌, ◌≢◌, ◌↔◌, ◌≤◌, ◌<◌, ◌+◌, ◌++◌, length, IfOk, IsPermutation, true};
 ghost use Rattle.std.specs.Bool.{OnTrue, OnFalse};
 ghost use Rattle.std.specs.List.{AllAdjacentBelow};
-ghost use Rattle.tx_model.specs.Transactions.{Transaction, IsTransaction, AreLocks, IsBefore, are_apart, HasDouble, Says};
+ghost use Rattle.tx_model.specs.Transactions.{IsTransaction, transaction_of, AreLocks, IsBefore, are_apart, HasDouble, Says};
 
 use crate::Lock;
-use crate::lock::copy_locks;
 use std::alloc::{AllocError, Global};
+use std::cmp::Ordering;
 use std::marker::Model;
+use std::rc::Rc;
 
 /// Locks of a transaction at most, read and write locks together.
 pub const MAX_LOCKS: usize = 64;
@@ -23,14 +24,28 @@ pub enum TxFault {
     DoubleLock,
     /// More than 65,536 bytes.
     PayloadTooLong,
-    /// Never told by `Tx::new`, which takes no memory.
     Memory,
 }
 
+impl From<AllocError> for TxFault {
+    ghost use Rattle.tx_model.specs.declared.tx.TxFault.TheVariants.{Memory};
+
+    ghost from_gives = { λ _ fault. fault ≡ Memory };
+
+    fn from(_e: AllocError) -> TxFault {
+        TxFault::Memory
+    }
+}
+
 /// A transaction: which client built it, with which request number and at which mark, the locks that it names, and
-/// what it says to the application.
-#[derive(Debug, Drop)]
+/// what it says to the application. Copies share it.
+#[derive(Drop)]
 pub struct Tx {
+    parts: Rc<Parts, Global>,
+}
+
+#[derive(Drop)]
+struct Parts {
     client: u64,
     request: u64,
     mark: u64,
@@ -40,30 +55,20 @@ pub struct Tx {
 }
 
 impl Model for Tx {
+    ghost use Rattle.tx_model.specs.Transactions.{Transaction};
+    ghost use Rattle.tx_model.specs.TxLayout.{said_by, IsTx};
+
     ghost Value = { Transaction };
 
-    ghost view = { λ t. record {
-      client = t.client;
-      request = t.request;
-      mark = t.mark;
-      reads = t.reads.items;
-      writes = t.writes.items;
-      payload = t.payload.items;
-    } };
+    ghost view = { said_by };
 
-    ghost invariant = { λ t. IsTransaction (record {
-      client = t.client;
-      request = t.request;
-      mark = t.mark;
-      reads = t.reads.items;
-      writes = t.writes.items;
-      payload = t.payload.items;
-    }) };
+    ghost invariant = { IsTx };
 }
 
 impl Tx {
     /// The transaction that says this, with both lists put in byte order.
     pub fn new(
+        alloc: Global,
         client: u64,
         request: u64,
         mark: u64,
@@ -74,7 +79,7 @@ impl Tx {
         ensures ok { IfOk result
             (λ tx. Says tx client request mark reads.items writes.items payload.items) }
 
-        // The refusals, in their order.
+        // The refusals, in their order. Memory is taken once none of them stands.
         ensures locks { (result ≡ Err TxFault.TooManyLocks) ↔
             (MAX_LOCKS < length reads.items + length writes.items) }
         ensures double { (result ≡ Err TxFault.DoubleLock) ↔
@@ -84,7 +89,6 @@ impl Tx {
             ((length reads.items + length writes.items ≤ MAX_LOCKS)
             × ¬ HasDouble (reads.items ++ writes.items)
             × (MAX_PAYLOAD < length payload.items)) }
-        ensures memory { result ≢ Err TxFault.Memory }
     {
         if reads.len() + writes.len() > MAX_LOCKS {
             return Err(TxFault::TooManyLocks);
@@ -95,68 +99,53 @@ impl Tx {
         if payload.len() > MAX_PAYLOAD {
             return Err(TxFault::PayloadTooLong);
         }
-        Ok(Tx {
-            client,
-            request,
-            mark,
-            reads,
-            writes,
-            payload,
-        })
+        let tx = Tx::of_lists(alloc, client, request, mark, reads, writes, payload)?;
+        Ok(tx)
     }
 
     /// The transaction with both lists as they stand, where all of it is known to be in form, as a decoder has tested it.
     pub fn of_lists(
+        alloc: Global,
         client: u64,
         request: u64,
         mark: u64,
         reads: Vec<Lock>,
         writes: Vec<Lock>,
         payload: Vec<u8>,
-    ) -> Tx
-        requires { IsTransaction (record {
-          client = client;
-          request = request;
-          mark = mark;
-          reads = reads.items;
-          writes = writes.items;
-          payload = payload.items;
-        }) }
-        ensures { result ≡ record {
-          client = client;
-          request = request;
-          mark = mark;
-          reads = reads.items;
-          writes = writes.items;
-          payload = payload.items;
-        } }
+    ) -> Result<Tx, AllocError>
+        requires { IsTransaction
+            (transaction_of client request mark reads.items writes.items payload.items) }
+        ensures { IfOk result (λ tx.
+            tx ≡ transaction_of client request mark reads.items writes.items payload.items) }
     {
-        Tx {
+        let parts = Parts {
             client,
             request,
             mark,
             reads,
             writes,
             payload,
-        }
+        };
+        let parts = Rc::new(alloc, parts)?;
+        Ok(Tx { parts })
     }
 
     pub fn client(&self) -> u64
         ensures { result ≡ self.now.client }
     {
-        self.client
+        self.parts.client
     }
 
     pub fn request(&self) -> u64
         ensures { result ≡ self.now.request }
     {
-        self.request
+        self.parts.request
     }
 
     pub fn mark(&self) -> u64
         ensures { result ≡ self.now.mark }
     {
-        self.mark
+        self.parts.mark
     }
 
     /// The read locks, in byte order.
@@ -164,7 +153,7 @@ impl Tx {
         ensures value { result.now ≡ self.now.reads }
         ensures valid { IsTransaction self.now }
     {
-        &self.reads
+        &self.parts.reads
     }
 
     /// The write locks, in byte order.
@@ -172,31 +161,22 @@ impl Tx {
         ensures value { result.now ≡ self.now.writes }
         ensures valid { IsTransaction self.now }
     {
-        &self.writes
+        &self.parts.writes
     }
 
     pub fn payload(&self) -> &[u8]
         ensures value { result.now ≡ self.now.payload }
         ensures valid { IsTransaction self.now }
     {
-        &self.payload
+        &self.parts.payload
     }
 
     /// An equal transaction.
-    pub fn copy(&self, alloc: Global) -> Result<Tx, AllocError>
+    pub fn copy(&self, _alloc: Global) -> Result<Tx, AllocError>
         ensures { IfOk result (λ tx. tx ≡ self.now) }
     {
-        let reads = copy_locks(alloc, &self.reads)?;
-        let writes = copy_locks(alloc, &self.writes)?;
-        let payload = self.payload.to_vec(alloc)?;
-        Ok(Tx {
-            client: self.client,
-            request: self.request,
-            mark: self.mark,
-            reads,
-            writes,
-            payload,
-        })
+        let parts = self.parts.clone()?;
+        Ok(Tx { parts })
     }
 }
 
@@ -236,13 +216,19 @@ fn are_locks(locks: &[Lock]) -> bool
     true
 }
 
-// Whether no name stands in both lists. They are short: at most 1,024 pairs are compared.
+// Whether no name stands in both lists, which are in byte order.
 fn are_apart(reads: &[Lock], writes: &[Lock]) -> bool
+    requires reads { AreLocks reads.now }
+    requires writes { AreLocks writes.now }
     ensures { result ≡ are_apart reads.now writes.now }
 {
-    for name in writes {
-        if reads.contains(name) {
-            return false;
+    let mut read = 0;
+    let mut write = 0;
+    while read < reads.len() && write < writes.len() {
+        match reads[read].cmp(&writes[write]) {
+            Ordering::Less => read += 1,
+            Ordering::Greater => write += 1,
+            Ordering::Equal => return false,
         }
     }
     true

@@ -20,6 +20,8 @@ impl<R: Read> StreamSource<R> {
 impl<R: Read> Source for StreamSource<R> {
     ghost left = { λ s. None };
 
+    ghost before = { λ s. None };
+
     ghost faults = { λ s. s.faults };
 
     fn read(&mut self, into: &mut [u8]) -> Result<usize, Failed> {
@@ -53,6 +55,8 @@ impl<W: Write> Sink for StreamSink<W> {
     ghost contents = { λ s. None };
 
     ghost faults = { λ s. s.faults };
+
+    ghost wants = { λ s. 0 };
 
     fn write(&mut self, bytes: &[u8]) -> Result<usize, Fault> {
         if bytes.is_empty() {

@@ -4,18 +4,19 @@ use Rattle.std.specs.Prelude.{◌||◌}
 use Rattle.std.specs.Io.KnownBytes.{Appends}
 use Rattle.std.proofs.lemmas.List.{append-nil, take-take}
 use Rattle.io_core.specs.Bytes.{AppendsPrefix}
-use Rattle.io_core.proofs.Known.{Appends-more, AppendsPrefix-more}
-use Rattle.schedule_text.specs.declared.event.Cluster.{Cluster}
-use Rattle.schedule_text.specs.declared.event.Event.{Event}
+use Rattle.io_core.proofs.Known.{Appends-nothing, Appends-more, AppendsPrefix-more}
+use Rattle.io_core.specs.Causes.{Rose}
+use Rattle.net_model.specs.declared.cluster.Cluster.{Cluster}
+use Rattle.net_model.specs.declared.event.Event.{Event}
 use Rattle.schedule_text.specs.Outcomes.{printed}
-use Rattle.schedule_text.specs.Schedules.{IsSchedule, IsBuilt, AreBuilt, IsUnbuilt, IsBuiltFirst, tried_after, is_cas}
-use Rattle.schedule_text.proofs.ScheduleLemmas.{one_event, one_cluster}
+use Rattle.waltz_cli.specs.Schedules.{IsSchedule, IsBuilt, AreBuilt, IsUnbuilt, IsBuiltFirst, tried_after, is_cas}
+use Rattle.waltz_cli.proofs.ScheduleLemmas.{one_event, one_cluster}
 use Rattle.waltz_cli.specs.declared.end.End.{End}
 use Rattle.waltz_cli.specs.declared.end.End.TheVariants.{Done, Usage, Unbuilt, Limit, ReadFault, WriteFault, Memory}
-use Rattle.schedule_text.proofs.SafeRuns.{every_schedule}
-use Rattle.waltz_cli.specs.Ends.{status_of, last_line, IsBroken, IsReported, IsDecided}
-use Rattle.waltz_cli.specs.Replays.{HasReason, Reads, PrintsReplay, ComesExactly}
-use Rattle.waltz_cli.specs.Steps.{Reaches, Finishes, IsTold}
+use Rattle.world_law.proofs.SafeRuns.{every_run}
+use Rattle.waltz_cli.specs.Ends.{status_of, last_line, IsBroken, IsBrokenBy, IsReported, IsDecided}
+use Rattle.waltz_cli.specs.Replays.{IsAfter, HasReason, Reads, Prints, PrintsReplay, ComesExactly}
+use Rattle.waltz_cli.specs.Steps.{Reaches, Counts, Finishes, IsTold}
 use Rattle.waltz_cli.proofs.Finishing.{AppendsPrefix-longer, Appends-prefix}
 
 -- ---- two readings of one text
@@ -68,24 +69,18 @@ at_limit WriteFault cluster first lines events rest d built reason goes = absurd
 at_limit Memory cluster first lines events rest d built reason goes = absurd d
 at_limit Usage cluster first lines events rest d built reason goes = absurd d
 
-not_longer : (end : End) (lines : List (List ℕ)) (events : List Event) (rest : List (List ℕ)) → IsDecided end → HasReason end lines events rest → length lines ≤ 20001
-not_longer Done lines events rest d reason = reason.2
-not_longer (Unbuilt line) lines events rest d reason = omega (arith, reason.2)
-not_longer Limit lines events rest d reason = omega (arith, reason.1)
-not_longer ReadFault lines events rest d reason = absurd d
-not_longer WriteFault lines events rest d reason = absurd d
-not_longer Memory lines events rest d reason = absurd d
-not_longer Usage lines events rest d reason = absurd d
+not_longer : (end : End) (lines : List (List ℕ)) (events : List Event) (rest : List (List ℕ)) → HasReason end lines events rest → length lines ≤ 20001
+not_longer end lines events rest reason = reason.2
 
 -- two decided ends after the same lines are one
 same_place : (a b : End) (first : List ℕ) (lines : List (List ℕ)) (events : List Event) (rest : List (List ℕ)) → IsDecided a → IsDecided b → HasReason a (first ∷ lines) events rest → HasReason b (first ∷ lines) events rest → a ≡ b
 same_place Done Done first lines events rest d e p q = refl
 same_place Limit Limit first lines events rest d e p q = refl
-same_place (Unbuilt a) (Unbuilt b) first lines events rest d e p q = ap Unbuilt (p.1 ∙ sym q.1)
+same_place (Unbuilt a) (Unbuilt b) first lines events rest d e p q = ap Unbuilt (p.1.0 ∙ sym q.1.0)
 same_place Done Limit first lines events rest d e p q = absurd (q.0 p.0)
 same_place Limit Done first lines events rest d e p q = absurd (p.0 q.0)
-same_place Limit (Unbuilt b) first lines events rest d e p q = absurd (omega (arith, p.1, q.2))
-same_place (Unbuilt a) Limit first lines events rest d e p q = absurd (omega (arith, q.1, p.2))
+same_place Limit (Unbuilt b) first lines events rest d e p q = absurd (omega (arith, p.1, q.1.1))
+same_place (Unbuilt a) Limit first lines events rest d e p q = absurd (omega (arith, q.1, p.1.1))
 same_place Done (Unbuilt b) first lines events rest d e p q = let P : List (List ℕ) → Type 0 = λ r. IsUnbuilt (first ∷ lines) events r in absurd (subst P p.0 q.0)
 same_place (Unbuilt a) Done first lines events rest d e p q = let P : List (List ℕ) → Type 0 = λ r. IsUnbuilt (first ∷ lines) events r in absurd (subst P q.0 p.0)
 same_place ReadFault b first lines events rest d e p q = absurd d
@@ -101,7 +96,7 @@ same_place a Usage first lines events rest d e p q = absurd e
 at_first : (a : End) (events : List Event) (rest : List (List ℕ)) → IsDecided a → HasReason a [] events rest → (a ≡ Unbuilt 1) × IsUnbuilt [] events rest
 at_first Done events rest d p = absurd (omega (arith, p.1))
 at_first Limit events rest d p = absurd (omega (arith, p.1))
-at_first (Unbuilt a) events rest d p = (ap Unbuilt p.1, p.0)
+at_first (Unbuilt a) events rest d p = (ap Unbuilt p.1.0, p.0)
 at_first ReadFault events rest d p = absurd d
 at_first WriteFault events rest d p = absurd d
 at_first Memory events rest d p = absurd d
@@ -147,10 +142,10 @@ same_end a b c1 (l ∷ ls) e1 r1 c2 (m ∷ ms) e2 r2 d e p q same f g =
         let E : List Event → Type 0 = λ x. HasReason b (l ∷ ls) x r2 in
         let R : List (List ℕ) → Type 0 = λ x. HasReason b (l ∷ ls) e1 x in
         same_place a b l ls e1 r1 d e f (subst R (sym rests) (subst E (sym h.1) (subst L (sym all) g)))
-    decide (inr (inl h)) = absurd (omega (arith, at_limit a c1 l ls e1 r1 d p.0 f h.1, not_longer b (m ∷ ms) e2 r2 e g, h.0))
+    decide (inr (inl h)) = absurd (omega (arith, at_limit a c1 l ls e1 r1 d p.0 f h.1, not_longer b (m ∷ ms) e2 r2 g, h.0))
     decide (inr (inr h)) =
         let G : Cluster → Type 0 = λ x. GoesOn x (tried_after false e2) r2 in
-        absurd (omega (arith, at_limit b c2 m ms e2 r2 e q.0 g (subst G clusters h.1), not_longer a (l ∷ ls) e1 r1 d f, h.0))
+        absurd (omega (arith, at_limit b c2 m ms e2 r2 e q.0 g (subst G clusters h.1), not_longer a (l ∷ ls) e1 r1 f, h.0))
 
 -- ---- what is printed
 
@@ -173,57 +168,133 @@ broken_text : (h0 h1 h2 : Option (List ℕ)) (written waiting text : List ℕ) (
 broken_text h0 h1 h2 written waiting text k held more told =
     AppendsPrefix-longer h0 h2 text [] (prefix_of_prefix h0 h2 text k (rw append-nil at (part_text h0 h1 h2 written waiting (take k text) [] held more told)))
 
--- how the text ends, by how the replay ended
-text_of : (end : End) (h0 h1 h2 : Option (List ℕ)) (written waiting text : List ℕ) (status : ℕ) → Appends h0 h1 written → IsTold end (written ++ waiting) text → Finishes h1 h2 waiting end status → ¬ (end ≡ Usage) →
-    (IsReported end × (status ≡ status_of end) × Appends h0 h2 (text ++ last_line end)) ⊎ (IsBroken status × AppendsPrefix h0 h2 (text ++ last_line end))
-text_of Done h0 h1 h2 written waiting text status held told (inl p) other = inl (tt, p.0, whole_text h0 h1 h2 written waiting text [] held p.1 told)
-text_of (Unbuilt line) h0 h1 h2 written waiting text status held told (inl p) other = inl (tt, p.0, whole_text h0 h1 h2 written waiting text (last_line (Unbuilt line)) held p.1 told)
-text_of Limit h0 h1 h2 written waiting text status held told (inl p) other = inl (tt, p.0, whole_text h0 h1 h2 written waiting text (last_line Limit) held p.1 told)
-text_of ReadFault h0 h1 h2 written waiting text status held told (inl p) other = inl (tt, p.0, whole_text h0 h1 h2 written waiting text (last_line ReadFault) held p.1 told)
-text_of Done h0 h1 h2 written waiting text status held told (inr p) other = inr (p.0, part_text h0 h1 h2 written waiting text [] held p.1 told)
-text_of (Unbuilt line) h0 h1 h2 written waiting text status held told (inr p) other = inr (p.0, part_text h0 h1 h2 written waiting text (last_line (Unbuilt line)) held p.1 told)
-text_of Limit h0 h1 h2 written waiting text status held told (inr p) other = inr (p.0, part_text h0 h1 h2 written waiting text (last_line Limit) held p.1 told)
-text_of ReadFault h0 h1 h2 written waiting text status held told (inr p) other = inr (p.0, part_text h0 h1 h2 written waiting text (last_line ReadFault) held p.1 told)
-text_of WriteFault h0 h1 h2 written waiting text status held told (inl p) other = inr (inl p.0, broken_text h0 h1 h2 written waiting text told.0 held (Appends-prefix h1 h2 (waiting ++ []) p.1) told.1)
-text_of Memory h0 h1 h2 written waiting text status held told (inl p) other = inr (inr p.0, broken_text h0 h1 h2 written waiting text told.0 held (Appends-prefix h1 h2 (waiting ++ []) p.1) told.1)
-text_of WriteFault h0 h1 h2 written waiting text status held told (inr p) other = inr (p.0, broken_text h0 h1 h2 written waiting text told.0 held p.1 told.1)
-text_of Memory h0 h1 h2 written waiting text status held told (inr p) other = inr (p.0, broken_text h0 h1 h2 written waiting text told.0 held p.1 told.1)
-text_of Usage h0 h1 h2 written waiting text status held told finish other = absurd (other refl)
+broken_by : (refused whole : Type 0) (status : ℕ) → (refused → whole) → IsBrokenBy refused status → IsBrokenBy whole status
+broken_by refused whole status so (inl is) = inl is
+broken_by refused whole status so (inr p) = inr (p.0, so p.1)
 
-pub prints : (left_old left_new h0 h1 h2 : Option (List ℕ)) (waiting : List ℕ) (end : End) (status : ℕ) → Reaches left_old left_new h0 h1 waiting end → Finishes h1 h2 waiting end status → ¬ (end ≡ Usage) → PrintsReplay left_old left_new h0 h2 status
-prints left_old left_new h0 h1 h2 waiting end status reaches finish other = record {
+-- an end whose whole text was told
+reported : (whole refused : Type 0) (end : End) (h0 h1 h2 : Option (List ℕ)) (written waiting text : List ℕ) (status : ℕ) → (refused → whole) → IsReported end → Appends h0 h1 written → written ++ waiting ≡ text → Finishes refused h1 h2 waiting end status → Prints whole end h0 h2 text status
+reported whole refused end h0 h1 h2 written waiting text status so is held told (inl p) = inl (is, p.0, whole_text h0 h1 h2 written waiting text (last_line end) held p.1 told)
+reported whole refused end h0 h1 h2 written waiting text status so is held told (inr (inl p)) =
+    inr (inl (p.0, rw append-nil at (whole_text h0 h1 h2 written waiting text [] held (rw (append-nil waiting) p.1) told)))
+reported whole refused end h0 h1 h2 written waiting text status so is held told (inr (inr p)) =
+    inr (inr (broken_by refused whole status so p.0, part_text h0 h1 h2 written waiting text (last_line end) held p.1 told))
+
+-- want of memory, with the whole text told
+memory_told : (whole refused : Type 0) (h0 h1 h2 : Option (List ℕ)) (written waiting text : List ℕ) (status : ℕ) → (refused → whole) → Appends h0 h1 written → written ++ waiting ≡ text → Finishes refused h1 h2 waiting Memory status → Prints whole Memory h0 h2 text status
+memory_told whole refused h0 h1 h2 written waiting text status so held told (inl p) =
+    inr (inl (p.0, rw append-nil at (whole_text h0 h1 h2 written waiting text [] held p.1 told)))
+memory_told whole refused h0 h1 h2 written waiting text status so held told (inr (inl p)) =
+    inr (inl (p.0, rw append-nil at (whole_text h0 h1 h2 written waiting text [] held (rw (append-nil waiting) p.1) told)))
+memory_told whole refused h0 h1 h2 written waiting text status so held told (inr (inr p)) =
+    inr (inr (broken_by refused whole status so p.0, part_text h0 h1 h2 written waiting text [] held p.1 told))
+
+-- want of memory that the sink met
+memory_cut : (whole refused : Type 0) (h0 h1 h2 : Option (List ℕ)) (written waiting text : List ℕ) (k status : ℕ) → (refused → whole) → whole → Appends h0 h1 written → written ++ waiting ≡ take k text → Finishes refused h1 h2 waiting Memory status → Prints whole Memory h0 h2 text status
+memory_cut whole refused h0 h1 h2 written waiting text k status so met held told (inl p) =
+    inr (inr (inr (p.0, met), broken_text h0 h1 h2 written waiting text k held (Appends-prefix h1 h2 (waiting ++ []) p.1) told))
+memory_cut whole refused h0 h1 h2 written waiting text k status so met held told (inr (inl p)) =
+    inr (inr (inr (p.0, met), broken_text h0 h1 h2 written waiting text k held (Appends-prefix h1 h2 (waiting ++ []) (rw (append-nil waiting) p.1)) told))
+memory_cut whole refused h0 h1 h2 written waiting text k status so met held told (inr (inr p)) =
+    inr (inr (broken_by refused whole status so p.0, broken_text h0 h1 h2 written waiting text k held p.1 told))
+
+-- a write that failed
+write_cut : (whole : Type 0) (h0 h1 : Option (List ℕ)) (written waiting text : List ℕ) (k status : ℕ) → Appends h0 h1 written → written ++ waiting ≡ take k text → status ≡ 11 → Prints whole WriteFault h0 h1 text status
+write_cut whole h0 h1 written waiting text k status held told is =
+    inr (inr (inl is, broken_text h0 h1 h1 written waiting text k held (nothing_more h1 (waiting ++ [])) told))
+  where
+    nothing_more : (h : Option (List ℕ)) (xs : List ℕ) → AppendsPrefix h h xs
+    nothing_more h xs = (0, omega arith, Appends-nothing h)
+
+-- how the text ends, by how the replay ended
+prints_text : (whole met refused : Type 0) (end : End) (h0 h1 h2 : Option (List ℕ)) (written waiting text : List ℕ) (status : ℕ) → (met → whole) → (refused → whole) → Appends h0 h1 written → IsTold met end (written ++ waiting) text → Finishes refused h1 h2 waiting end status → (end ≡ WriteFault → (status ≡ 11) × (h2 ≡ h1)) → ¬ (end ≡ Usage) → Prints whole end h0 h2 text status
+prints_text whole met refused Done h0 h1 h2 written waiting text status m so held told finish cut other = reported whole refused Done h0 h1 h2 written waiting text status so tt held told finish
+prints_text whole met refused (Unbuilt line) h0 h1 h2 written waiting text status m so held told finish cut other = reported whole refused (Unbuilt line) h0 h1 h2 written waiting text status so tt held told finish
+prints_text whole met refused Limit h0 h1 h2 written waiting text status m so held told finish cut other = reported whole refused Limit h0 h1 h2 written waiting text status so tt held told finish
+prints_text whole met refused ReadFault h0 h1 h2 written waiting text status m so held told finish cut other = reported whole refused ReadFault h0 h1 h2 written waiting text status so tt held told finish
+prints_text whole met refused WriteFault h0 h1 h2 written waiting text status m so held told finish cut other =
+    let same = cut refl in
+    rw same.1 (write_cut whole h0 h1 written waiting text told.0 status held told.1 same.0)
+prints_text whole met refused Memory h0 h1 h2 written waiting text status m so held (inl told) finish cut other = memory_told whole refused h0 h1 h2 written waiting text status so held told finish
+prints_text whole met refused Memory h0 h1 h2 written waiting text status m so held (inr p) finish cut other = memory_cut whole refused h0 h1 h2 written waiting text p.1.0 status so (m p.0) held p.1.1 finish
+prints_text whole met refused Usage h0 h1 h2 written waiting text status m so held told finish cut other = absurd (other refl)
+
+pub prints : (left_old before left_new h0 h1 h2 : Option (List ℕ)) (whole met refused : Type 0) (waiting : List ℕ) (end : End) (status : ℕ) → (met → whole) → (refused → whole) → Reaches left_old before left_new h0 h1 met waiting end → Finishes refused h1 h2 waiting end status → (end ≡ WriteFault → (status ≡ 11) × (h2 ≡ h1)) → ¬ (end ≡ Usage) → PrintsReplay left_old before left_new h0 h2 whole status
+prints left_old before left_new h0 h1 h2 whole met refused waiting end status m so reaches finish cut other = record {
   end = end;
   cluster = reaches.cluster;
   lines = reaches.lines;
   events = reaches.events;
   outcomes = reaches.outcomes;
   worlds = reaches.worlds;
+  after = reaches.after;
+  few = reaches.few;
   read = reaches.read;
   schedule = reaches.schedule;
   run = reaches.run;
-  safe = every_schedule reaches.lines reaches.cluster reaches.events reaches.outcomes reaches.worlds reaches.schedule reaches.run;
-  text = text_of end h0 h1 h2 reaches.written waiting (printed reaches.outcomes) status reaches.held reaches.told finish other;
+  safe = every_run reaches.cluster reaches.events reaches.outcomes reaches.worlds reaches.run;
+  text = prints_text whole met refused end h0 h1 h2 reaches.written waiting (printed reaches.outcomes) status m so reaches.held reaches.told finish cut other;
 }
 
 -- ---- exactly
 
-decided : (bytes : List ℕ) (left : Option (List ℕ)) (end : End) (cluster : Cluster) (lines : List (List ℕ)) (events : List Event) (status : ℕ) → IsDecided end → Reads end bytes left lines events → IsSchedule lines cluster events → status ≡ status_of end → ComesExactly (Some bytes) status
-decided bytes left end cluster lines events status d read schedule is other c2 l2 e2 r2 e schedule2 cut reason =
-    inl (is ∙ ap status_of (same_end end other cluster lines events read.rest c2 l2 e2 r2 d e schedule schedule2 (sym read.split ∙ cut) read.reason reason))
+decided : (bytes : List ℕ) (before left : Option (List ℕ)) (end : End) (cluster : Cluster) (lines : List (List ℕ)) (events : List Event) (status : ℕ) → IsDecided end → IsAfter end lines → length lines ≤ 20001 → Reads end bytes before left lines events → IsSchedule lines cluster events → status ≡ status_of end → ComesExactly (Some bytes) status
+decided bytes before left end cluster lines events status d after few read schedule is other c2 l2 e2 r2 e schedule2 cut reason =
+    inl (is ∙ ap status_of (same_end end other cluster lines events read.rest c2 l2 e2 r2 d e schedule schedule2 (sym read.split ∙ cut) (read.followed, after, few) reason))
 
-at_end : (bytes : List ℕ) (left : Option (List ℕ)) (end : End) (cluster : Cluster) (lines : List (List ℕ)) (events : List Event) (status : ℕ) → IsReported end → Reads end bytes left lines events → IsSchedule lines cluster events → status ≡ status_of end → ComesExactly (Some bytes) status
-at_end bytes left Done cluster lines events status p read schedule is = decided bytes left Done cluster lines events status tt read schedule is
-at_end bytes left (Unbuilt line) cluster lines events status p read schedule is = decided bytes left (Unbuilt line) cluster lines events status tt read schedule is
-at_end bytes left Limit cluster lines events status p read schedule is = decided bytes left Limit cluster lines events status tt read schedule is
-at_end bytes left ReadFault cluster lines events status p read schedule is = λ _ _ _ _ _ _ _ _ _. inr (inl is)
-at_end bytes left WriteFault cluster lines events status p read schedule is = absurd p
-at_end bytes left Memory cluster lines events status p read schedule is = absurd p
-at_end bytes left Usage cluster lines events status p read schedule is = absurd p
+at_end : (bytes : List ℕ) (before left : Option (List ℕ)) (end : End) (cluster : Cluster) (lines : List (List ℕ)) (events : List Event) (status : ℕ) → IsReported end → IsAfter end lines → length lines ≤ 20001 → Reads end bytes before left lines events → IsSchedule lines cluster events → status ≡ status_of end → ComesExactly (Some bytes) status
+at_end bytes before left Done cluster lines events status p after few read schedule is = decided bytes before left Done cluster lines events status tt after few read schedule is
+at_end bytes before left (Unbuilt line) cluster lines events status p after few read schedule is = decided bytes before left (Unbuilt line) cluster lines events status tt after few read schedule is
+at_end bytes before left Limit cluster lines events status p after few read schedule is = decided bytes before left Limit cluster lines events status tt after few read schedule is
+at_end bytes before left ReadFault cluster lines events status p after few read schedule is = λ _ _ _ _ _ _ _ _ _. inr (inl is)
+at_end bytes before left WriteFault cluster lines events status p after few read schedule is = absurd p
+at_end bytes before left Memory cluster lines events status p after few read schedule is = absurd p
+at_end bytes before left Usage cluster lines events status p after few read schedule is = absurd p
 
-pub exactly : (left_old left_new h0 h2 : Option (List ℕ)) (status : ℕ) → PrintsReplay left_old left_new h0 h2 status → ComesExactly left_old status
-exactly None left_new h0 h2 status p = tt
-exactly (Some bytes) left_new h0 h2 status p = by_text p.text
+pub exactly : (left_old before left_new h0 h2 : Option (List ℕ)) (refused : Type 0) (status : ℕ) → PrintsReplay left_old before left_new h0 h2 refused status → ComesExactly left_old status
+exactly None before left_new h0 h2 refused status p = tt
+exactly (Some bytes) before left_new h0 h2 refused status p = by_text p.text
   where
-    by_text : (IsReported p.end × (status ≡ status_of p.end) × Appends h0 h2 (printed p.outcomes ++ last_line p.end)) ⊎ (IsBroken status × AppendsPrefix h0 h2 (printed p.outcomes ++ last_line p.end)) → ComesExactly (Some bytes) status
-    by_text (inl t) = at_end bytes left_new p.end p.cluster p.lines p.events status t.0 p.read p.schedule t.1
-    by_text (inr t) = λ _ _ _ _ _ _ _ _ _. inr (inr t.0)
+    broken : IsBrokenBy refused status → IsBroken status
+    broken (inl is) = inl is
+    broken (inr is) = inr is.0
+
+    by_text : Prints refused p.end h0 h2 (printed p.outcomes) status → ComesExactly (Some bytes) status
+    by_text (inl t) = at_end bytes before left_new p.end p.cluster p.lines p.events status t.0 p.after p.few p.read p.schedule t.1
+    by_text (inr (inl t)) = λ _ _ _ _ _ _ _ _ _. inr (inr (inr t.0))
+    by_text (inr (inr t)) = λ _ _ _ _ _ _ _ _ _. inr (inr (broken t.0))
+
+-- ---- faults
+
+-- a read fault that was counted is the end
+pub read_fault_told : (end : End) (before now status : ℕ) (refused : Type 0) (h0 h1 : Option (List ℕ)) (waiting : List ℕ) → Counts before now (end ≡ ReadFault) → before < now → Finishes refused h0 h1 waiting end status → (status ≡ 10) ⊎ IsBroken status
+read_fault_told ReadFault before now status refused h0 h1 waiting counts rose (inl p) = inl p.0
+read_fault_told ReadFault before now status refused h0 h1 waiting counts rose (inr (inl p)) = inr (inr p.0)
+read_fault_told ReadFault before now status refused h0 h1 waiting counts rose (inr (inr (p, q))) = by_cause p
+  where
+    by_cause : IsBrokenBy refused status → (status ≡ 10) ⊎ IsBroken status
+    by_cause (inl is) = inr (inl is)
+    by_cause (inr is) = inr (inr is.0)
+read_fault_told Done before now status refused h0 h1 waiting counts rose finish = absurd (omega (arith, rose, counts.same (λ e. cc)))
+read_fault_told Usage before now status refused h0 h1 waiting counts rose finish = absurd (omega (arith, rose, counts.same (λ e. cc)))
+read_fault_told (Unbuilt line) before now status refused h0 h1 waiting counts rose finish = absurd (omega (arith, rose, counts.same (λ e. cc)))
+read_fault_told Limit before now status refused h0 h1 waiting counts rose finish = absurd (omega (arith, rose, counts.same (λ e. cc)))
+read_fault_told WriteFault before now status refused h0 h1 waiting counts rose finish = absurd (omega (arith, rose, counts.same (λ e. cc)))
+read_fault_told Memory before now status refused h0 h1 waiting counts rose finish = absurd (omega (arith, rose, counts.same (λ e. cc)))
+
+-- a write fault that was counted is told, whether it came in the replay or at its end
+pub write_fault_told : (end : End) (f0 f1 f2 status : ℕ) → Counts f0 f1 (end ≡ WriteFault) → (end ≡ WriteFault → status ≡ 11) → (f1 < f2 → status ≡ 11) → f0 < f2 → status ≡ 11
+write_fault_told WriteFault f0 f1 f2 status counts ended told rose = ended refl
+write_fault_told Done f0 f1 f2 status counts ended told rose = told (omega (arith, rose, counts.same (λ e. cc)))
+write_fault_told Usage f0 f1 f2 status counts ended told rose = told (omega (arith, rose, counts.same (λ e. cc)))
+write_fault_told (Unbuilt line) f0 f1 f2 status counts ended told rose = told (omega (arith, rose, counts.same (λ e. cc)))
+write_fault_told Limit f0 f1 f2 status counts ended told rose = told (omega (arith, rose, counts.same (λ e. cc)))
+write_fault_told ReadFault f0 f1 f2 status counts ended told rose = told (omega (arith, rose, counts.same (λ e. cc)))
+write_fault_told Memory f0 f1 f2 status counts ended told rose = told (omega (arith, rose, counts.same (λ e. cc)))
+
+-- a want that was counted in a part was counted in the whole
+pub rose_early : (a b c : ℕ) → b ≤ c → Rose a b → Rose a c
+rose_early a b c later rose = omega (arith, later, rose)
+
+pub rose_late : (a b c : ℕ) → a ≤ b → Rose b c → Rose a c
+rose_late a b c later rose = grind (arith, later, rose)

@@ -1,3 +1,4 @@
+pub mod ScheduleLemmas
 pub mod WordsLemmas
 pub mod Reading
 pub mod Finishing

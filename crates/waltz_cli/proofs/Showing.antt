@@ -1,5 +1,5 @@
 -- What an event makes of the world of one node, one server and one client.
-use Rattle.std.proofs.Common.{◌≡◌, ◌≢◌, ℕ, ◌+◌, ◌-◌, ◌<◌, List, [], ◌∷◌, ◌++◌, length, map, filter, Bool, true, false, refl, sym, ◌∙◌, ap, subst, arith, append_assoc, length-append, get_or, slice_get, Option, None, Some}
+use Rattle.std.proofs.Common.{◌≡◌, ◌≢◌, ℕ, suc, ◌+◌, ◌<◌, List, [], ◌∷◌, ◌++◌, length, map, filter, Bool, true, false, refl, sym, ◌∙◌, ap, subst, arith, append_assoc, length-append, get_or, slice_get, Option, None, Some}
 use Rattle.std.specs.Prelude.{◌==◌, ◌&&◌, if◌then◌else◌}
 use Rattle.std.proofs.lemmas.Option.{slice_get_read}
 use Rattle.std.proofs.lemmas.Bool.Decides.{nat_tests}
@@ -8,41 +8,49 @@ use Rattle.proto_model.specs.declared.message.ToNode.{ToNode}
 use Rattle.proto_model.specs.declared.message.FromNode.{FromNode}
 use Rattle.proto_model.specs.declared.client_message.ToServer.{ToServer}
 use Rattle.proto_model.specs.declared.client_message.FromServer.{FromServer}
+use Rattle.proto_model.specs.Validity.{IsValidToNode, IsValidFromNode}
 use Rattle.proto_model.specs.Tables.{put}
 use Rattle.proto_model.specs.Quorums.{is_within}
 use Rattle.proto_model.specs.Replicas.{ReplicaState, fresh_replica, replica_after, replica_reply}
-use Rattle.proto_model.specs.Servers.{Setting, ServerState, Waiting, idle_server, drawn, server_after, server_answers}
+use Rattle.proto_model.specs.Servers.{Config, ServerState, Waiting, idle_server, drawn, server_after, server_answers}
 use Rattle.proto_model.specs.Serving.{served_after, served_answers}
 use Rattle.std.specs.List.{AllByRecursion}
-use Rattle.proto_model.specs.Clients.{ClientState, fresh_client, client_after, after_build, built, next_ask, HasPlace}
-use Rattle.schedule_text.specs.declared.event.Cluster.{Cluster}
-use Rattle.schedule_text.specs.declared.mail.Party.{Party}
-use Rattle.schedule_text.specs.declared.mail.Party.TheVariants as party
-use Rattle.schedule_text.specs.declared.mail.Mail.{Mail}
-use Rattle.schedule_text.specs.declared.mail.Mail.TheVariants as mail
-use Rattle.schedule_text.specs.declared.mail.Envelope.{Envelope}
-use Rattle.schedule_text.specs.declared.outcome.Item.{Item}
-use Rattle.schedule_text.specs.declared.outcome.Outcome.TheVariants as outcome
-use Rattle.schedule_text.specs.Mails.{item_of, items_from}
+use Rattle.client_core.specs.Clients.{ClientState, fresh_client, client_after, after_build, built, next_ask}
+use Rattle.proto_model.specs.Validity.{HasPlace}
+use Rattle.net_model.specs.declared.cluster.Cluster.{Cluster}
+use Rattle.net_model.specs.declared.mail.Party.{Party}
+use Rattle.net_model.specs.declared.mail.Party.TheVariants as party
+use Rattle.net_model.specs.declared.mail.Mail.{Mail}
+use Rattle.net_model.specs.declared.mail.Mail.TheVariants as mail
+use Rattle.net_model.specs.declared.mail.Envelope.{Envelope}
+use Rattle.net_model.specs.declared.shown.Item.{Item}
+use Rattle.net_model.specs.declared.outcome.Outcome.TheVariants as outcome
+use Rattle.net_model.specs.Briefs.{item_of, items_from}
+use Rattle.net_model.specs.Pools.{envelope_at}
 use Rattle.proto_model.proofs.TableLemmas.{either, AllByRecursion-append, AllByRecursion-get}
-use Rattle.proto_model.specs.declared.refusal.BuildFault.TheVariants.{LastRequest}
+use Rattle.proto_model.specs.declared.refusal.BuildFault.{BuildFault}
+use Rattle.client_core.specs.Building.{build_refusal}
 use Rattle.proto_model.specs.declared.client_message.ToServer.TheVariants as wish
-use Rattle.proto_model.specs.declared.client_message.FromServer.TheVariants as to_client
 use Rattle.proto_model.specs.Sending.{next_messages}
 use Rattle.tx_model.specs.Applications.{application_text}
-use Rattle.schedule_text.specs.Words.{IsWithin}
-use Rattle.schedule_text.specs.Registers.{cas_answer}
-use Rattle.schedule_text.specs.declared.register.Cas.{Cas as CasAnswer}
-use Rattle.schedule_text.specs.declared.register.Cas.TheVariants as answer
-use Rattle.schedule_text.specs.declared.event.Event.TheVariants as event
-use Rattle.schedule_text.specs.Worlds.{WorldState, start, setting_of, happens, outcome_of, after_cas, after_answer, outcome_of_cas, cas_outcome, envelope_from, ticked, asked, submission, is_spent, with_node, with_server, told, is_client, answer_from, taken, sends, mail_outcome, sent_outcome, with_sent, delivered, delivery_outcome, advanced, envelope_of}
+use Rattle.net_model.specs.Clusters.{IsWithin}
+use Rattle.session_register.specs.Registers.{cas_answer}
+use Rattle.session_register.specs.declared.register.Cas.{Cas as CasAnswer}
+use Rattle.session_register.specs.declared.register.Cas.TheVariants as answer
+use Rattle.net_model.specs.declared.event.Event.{Event}
+use Rattle.net_model.specs.declared.event.Event.TheVariants as event
+use Rattle.schedule_text.specs.Events.{IsReadEvent}
+use Rattle.world_law.specs.Worlds.{WorldState, start, config_of, with_node, with_server, with_sent, envelope_of}
+use Rattle.world_law.specs.Steps.{happens, after_cas, after_answer, envelope_from, ticked, asked, submission, advanced, submitted, Allows}
+use Rattle.world_law.specs.Outcomes.{outcome_of, outcome_of_cas, cas_outcome, mail_outcome, sent_outcome, delivery_outcome, submission_outcome}
+use Rattle.world_law.specs.Deliveries.{told, is_client, answer_from, taken, sends, delivered}
 use Rattle.partition_server.specs.Answers.{addressed}
-use Rattle.std.specs.Prelude.{Vec, IfSome, option_to_list, ◌^◌}
+use Rattle.std.specs.Prelude.{Vec, IfSome, option_to_list}
 use Rattle.std.specs.declared.alloc.Global.{Global}
 use Rattle.waltz_cli.specs.declared.parties.Got.{Got}
 use Rattle.waltz_cli.specs.declared.parties.Got.TheVariants as got
-use Rattle.waltz_cli.specs.Views.{IsShown}
-use Rattle.waltz_cli.specs.Parties.{made_by, outcome_got, Columns, HasParties, Delivers, only, pair_envelope, is_to_client, items_outcome, HasPlaces, ArePlaced, answer_placed, mail_placed, are_placed}
+use Rattle.waltz_cli.specs.Views.{IsShown, plain}
+use Rattle.waltz_cli.specs.Parties.{no_files, made_by, outcome_got, Columns, HasParties, Delivers, only, pair_envelope, is_to_client, items_outcome, IsFit, AreFit}
 
 -- ---- tables with one entry
 
@@ -74,7 +82,7 @@ fits p w has =
     ∙ (ap (λ s. F p.cluster (only fresh_replica p.node) s w.clients) has.servers
     ∙ ap (λ l. F p.cluster (only fresh_replica p.node) (only idle_server p.server) l) has.clients))
 
-node_shown : (p : Columns) (w : WorldState) (r : ReplicaState) → IsSingle p → HasParties (record p { node = r }) (with_node (shown p w) 1 r)
+node_shown : (p : Columns) (w : WorldState) (r : ReplicaState) → IsSingle p → HasParties (record p { node = r }) (with_node (shown p w) 1 r no_files)
 node_shown p w r single = record { cluster = refl; single = single; nodes = only-put fresh_replica p.node r; servers = refl; clients = refl }
 
 server_shown : (p : Columns) (w : WorldState) (sv : ServerState) → IsSingle p → HasParties (record p { server = sv }) (with_server (shown p w) 1 sv)
@@ -98,11 +106,11 @@ sent_outcome-items w (e ∷ envelopes) = refl
 -- ---- a delivery
 
 -- a request to the node
-pub request_has : (p : Columns) (w : WorldState) (from : Party) (m : ToNode) (r : ReplicaState) → HasParties p w → r ≡ replica_after p.node m → HasParties (record p { node = r }) (taken w from (party.Node 1) (mail.ToNode m))
+pub request_has : (p : Columns) (w : WorldState) (from : Party) (m : ToNode) (r : ReplicaState) → HasParties p w → r ≡ replica_after p.node m → HasParties (record p { node = r }) (taken w no_files from (party.Node 1) (mail.ToNode m))
 request_has p w from m r has is =
-    let P : WorldState → Type 0 = λ x. HasParties (record p { node = r }) (taken x from (party.Node 1) (mail.ToNode m)) in
-    let Q : Bool → Type 0 = λ b. HasParties (record p { node = r }) (if b then with_node (shown p w) 1 (replica_after p.node m) else shown p w) in
-    let R : ReplicaState → Type 0 = λ x. HasParties (record p { node = r }) (with_node (shown p w) 1 x) in
+    let P : WorldState → Type 0 = λ x. HasParties (record p { node = r }) (taken x no_files from (party.Node 1) (mail.ToNode m)) in
+    let Q : Bool → Type 0 = λ b. HasParties (record p { node = r }) (if b then with_node (shown p w) 1 (replica_after p.node m) no_files else shown p w) in
+    let R : ReplicaState → Type 0 = λ x. HasParties (record p { node = r }) (with_node (shown p w) 1 x no_files) in
     subst P (sym (fits p w has)) (subst Q (sym (one_within p.cluster.nodes has.single.0)) (subst R is (node_shown p w r has.single)))
 
 pub request_made : (p : Columns) (w : WorldState) (from : Party) (m : ToNode) → HasParties p w → sends w from (party.Node 1) (mail.ToNode m) ≡ record { from = party.Node 1; to = from; message = mail.FromNode (replica_reply p.node m) } ∷ []
@@ -112,10 +120,10 @@ request_made p w from m has =
     ∙ ap (λ (b : Bool). if b then e ∷ [] else []) (one_within p.cluster.nodes has.single.0)
 
 -- a reply to the server
-pub reply_has : (p : Columns) (w : WorldState) (m : FromNode) (sv : ServerState) → HasParties p w → sv ≡ server_after (setting_of p.cluster) p.server 1 m → HasParties (record p { server = sv }) (taken w (party.Node 1) (party.Server 1) (mail.FromNode m))
+pub reply_has : (p : Columns) (w : WorldState) (m : FromNode) (sv : ServerState) → HasParties p w → sv ≡ server_after (config_of p.cluster) p.server 1 m → HasParties (record p { server = sv }) (taken w no_files (party.Node 1) (party.Server 1) (mail.FromNode m))
 reply_has p w m sv has is =
-    let P : WorldState → Type 0 = λ x. HasParties (record p { server = sv }) (taken x (party.Node 1) (party.Server 1) (mail.FromNode m)) in
-    let Q : Bool → Type 0 = λ b. HasParties (record p { server = sv }) (if b then with_server (shown p w) 1 (server_after (setting_of p.cluster) p.server 1 m) else shown p w) in
+    let P : WorldState → Type 0 = λ x. HasParties (record p { server = sv }) (taken x no_files (party.Node 1) (party.Server 1) (mail.FromNode m)) in
+    let Q : Bool → Type 0 = λ b. HasParties (record p { server = sv }) (if b then with_server (shown p w) 1 (server_after (config_of p.cluster) p.server 1 m) else shown p w) in
     let R : ServerState → Type 0 = λ x. HasParties (record p { server = sv }) (with_server (shown p w) 1 x) in
     let both : (is_within p.cluster.nodes 1 && is_within p.cluster.servers 1) ≡ true = rw (one_within p.cluster.nodes has.single.0, one_within p.cluster.servers has.single.1) refl in
     subst P (sym (fits p w has)) (subst Q (sym both) (subst R is (server_shown p w sv has.single)))
@@ -132,31 +140,31 @@ told_pairs w clients (x ∷ waiting) same =
     ∙ one_told (is_within w.cluster.clients x.client) x (filter (is_to_client clients) (map addressed waiting)) (filter (is_client w) waiting) (told_pairs w clients waiting same)
 
 pub reply_made : (p : Columns) (w : WorldState) (m : FromNode) → HasParties p w →
-    sends w (party.Node 1) (party.Server 1) (mail.FromNode m) ≡ map pair_envelope (filter (is_to_client p.cluster.clients) (map addressed (server_answers (setting_of p.cluster) p.server 1 m)))
+    sends w (party.Node 1) (party.Server 1) (mail.FromNode m) ≡ map pair_envelope (filter (is_to_client p.cluster.clients) (map addressed (server_answers (config_of p.cluster) p.server 1 m)))
 reply_made p w m has =
-    let made = map (told 1) (filter (is_client (shown p w)) (server_answers (setting_of p.cluster) p.server 1 m)) in
+    let made = map (told 1) (filter (is_client (shown p w)) (server_answers (config_of p.cluster) p.server 1 m)) in
     let both : (is_within p.cluster.nodes 1 && is_within p.cluster.servers 1) ≡ true = rw (one_within p.cluster.nodes has.single.0, one_within p.cluster.servers has.single.1) refl in
     ap (λ (x : WorldState). sends x (party.Node 1) (party.Server 1) (mail.FromNode m)) (fits p w has)
     ∙ (ap (λ (b : Bool). if b then made else []) both
-    ∙ sym (told_pairs (shown p w) p.cluster.clients (server_answers (setting_of p.cluster) p.server 1 m) refl))
+    ∙ sym (told_pairs (shown p w) p.cluster.clients (server_answers (config_of p.cluster) p.server 1 m) refl))
 
 -- a client's request to the server
-pub wish_has : (p : Columns) (w : WorldState) (from : Party) (m : ToServer) (sv : ServerState) → HasParties p w → sv ≡ served_after (setting_of p.cluster) p.server m → HasParties (record p { server = sv }) (taken w from (party.Server 1) (mail.ToServer m))
+pub wish_has : (p : Columns) (w : WorldState) (from : Party) (m : ToServer) (sv : ServerState) → HasParties p w → sv ≡ served_after (config_of p.cluster) p.server m → HasParties (record p { server = sv }) (taken w no_files from (party.Server 1) (mail.ToServer m))
 wish_has p w from m sv has is =
-    let P : WorldState → Type 0 = λ x. HasParties (record p { server = sv }) (taken x from (party.Server 1) (mail.ToServer m)) in
-    let Q : Bool → Type 0 = λ b. HasParties (record p { server = sv }) (if b then with_server (shown p w) 1 (served_after (setting_of p.cluster) p.server m) else shown p w) in
+    let P : WorldState → Type 0 = λ x. HasParties (record p { server = sv }) (taken x no_files from (party.Server 1) (mail.ToServer m)) in
+    let Q : Bool → Type 0 = λ b. HasParties (record p { server = sv }) (if b then with_server (shown p w) 1 (served_after (config_of p.cluster) p.server m) else shown p w) in
     let R : ServerState → Type 0 = λ x. HasParties (record p { server = sv }) (with_server (shown p w) 1 x) in
     subst P (sym (fits p w has)) (subst Q (sym (one_within p.cluster.servers has.single.1)) (subst R is (server_shown p w sv has.single)))
 
-pub wish_made : (p : Columns) (w : WorldState) (from : Party) (m : ToServer) → HasParties p w → sends w from (party.Server 1) (mail.ToServer m) ≡ map (answer_from 1 from) (served_answers (setting_of p.cluster) p.server m)
+pub wish_made : (p : Columns) (w : WorldState) (from : Party) (m : ToServer) → HasParties p w → sends w from (party.Server 1) (mail.ToServer m) ≡ map (answer_from 1 from) (served_answers (config_of p.cluster) p.server m)
 wish_made p w from m has =
     ap (λ (x : WorldState). sends x from (party.Server 1) (mail.ToServer m)) (fits p w has)
-    ∙ ap (λ (b : Bool). if b then map (answer_from 1 from) (served_answers (setting_of p.cluster) p.server m) else []) (one_within p.cluster.servers has.single.1)
+    ∙ ap (λ (b : Bool). if b then map (answer_from 1 from) (served_answers (config_of p.cluster) p.server m) else []) (one_within p.cluster.servers has.single.1)
 
 -- an answer to the client
-pub answer_has : (p : Columns) (w : WorldState) (from : Party) (m : FromServer) (cl : ClientState) → HasParties p w → cl ≡ client_after p.client m → HasParties (record p { client = cl }) (taken w from (party.Client 1) (mail.FromServer m))
+pub answer_has : (p : Columns) (w : WorldState) (from : Party) (m : FromServer) (cl : ClientState) → HasParties p w → cl ≡ client_after p.client m → HasParties (record p { client = cl }) (taken w no_files from (party.Client 1) (mail.FromServer m))
 answer_has p w from m cl has is =
-    let P : WorldState → Type 0 = λ x. HasParties (record p { client = cl }) (taken x from (party.Client 1) (mail.FromServer m)) in
+    let P : WorldState → Type 0 = λ x. HasParties (record p { client = cl }) (taken x no_files from (party.Client 1) (mail.FromServer m)) in
     let after : ClientState → WorldState = λ x. record (shown p w) { clients = put (only fresh_client p.client) 1 x } in
     let Q : Bool → Type 0 = λ b. HasParties (record p { client = cl }) (if b then after (client_after p.client m) else shown p w) in
     let R : ClientState → Type 0 = λ x. HasParties (record p { client = cl }) (after x) in
@@ -172,23 +180,23 @@ answer_outcome p w from m has =
 made_outcome : (w : WorldState) (v made : List Envelope) → v ≡ made → items_outcome (items_from (length w.sent + 1) v) ≡ sent_outcome w made
 made_outcome w v made same = ap (λ l. items_outcome (items_from (length w.sent + 1) l)) same ∙ sym (sent_outcome-items w made)
 
-pair_placed : (b : Bool) (x : Waiting) (pairs : List (ℕ × FromServer)) → ArePlaced (map pair_envelope pairs) → ArePlaced (map pair_envelope (if b then addressed x ∷ pairs else pairs))
-pair_placed true x pairs rest = (tt, rest)
-pair_placed false x pairs rest = rest
+pair_fit : (b : Bool) (x : Waiting) (pairs : List (ℕ × FromServer)) → AreFit (map pair_envelope pairs) → AreFit (map pair_envelope (if b then addressed x ∷ pairs else pairs))
+pair_fit true x pairs rest = (tt, rest)
+pair_fit false x pairs rest = rest
 
-pairs_placed : (clients : ℕ) (waiting : List Waiting) → ArePlaced (map pair_envelope (filter (is_to_client clients) (map addressed waiting)))
-pairs_placed clients [] = tt
-pairs_placed clients (x ∷ waiting) = pair_placed (is_within clients x.client) x (filter (is_to_client clients) (map addressed waiting)) (pairs_placed clients waiting)
+pairs_fit : (clients : ℕ) (waiting : List Waiting) → AreFit (map pair_envelope (filter (is_to_client clients) (map addressed waiting)))
+pairs_fit clients [] = tt
+pairs_fit clients (x ∷ waiting) = pair_fit (is_within clients x.client) x (filter (is_to_client clients) (map addressed waiting)) (pairs_fit clients waiting)
 
-answers_placed : (from : Party) (answers : List FromServer) → AllByRecursion HasPlace answers → ArePlaced (map (answer_from 1 from) answers)
-answers_placed from [] each = tt
-answers_placed from (x ∷ answers) each = (each.0, answers_placed from answers each.1)
+answers_fit : (from : Party) (answers : List FromServer) → AllByRecursion HasPlace answers → AreFit (map (answer_from 1 from) answers)
+answers_fit from [] each = tt
+answers_fit from (x ∷ answers) each = (each.0, answers_fit from answers each.1)
 
 pub request_delivers : (p : Columns) (from : Party) (m : ToNode) (r : ReplicaState) (reply : FromNode) (v : Vec Envelope Global) → r ≡ replica_after p.node m → reply ≡ replica_reply p.node m →
-    v.items ≡ record { from = party.Node 1; to = from; message = mail.FromNode reply } ∷ [] → Delivers p (record p { node = r }) from (party.Node 1) (mail.ToNode m) (got.Made v)
-request_delivers p from m r reply v after answered is = record {
+    v.items ≡ record { from = party.Node 1; to = from; message = mail.FromNode reply } ∷ [] → IsValidFromNode reply → Delivers p (record p { node = r }) from (party.Node 1) (mail.ToNode m) (got.Made v)
+request_delivers p from m r reply v after answered is valid = record {
   cluster = refl;
-  placed = subst ArePlaced (sym is) (tt, tt);
+  fit = subst AreFit (sym is) (valid, tt);
   world = λ w has. request_has p w from m r has after;
   made = λ w has. all w has;
   outcome = λ w has. made_outcome w v.items _ (all w has);
@@ -197,12 +205,12 @@ request_delivers p from m r reply v after answered is = record {
     all : (w : WorldState) → HasParties p w → v.items ≡ sends w from (party.Node 1) (mail.ToNode m)
     all w has = is ∙ (ap (λ x. record { from = party.Node 1; to = from; message = mail.FromNode x } ∷ []) answered ∙ sym (request_made p w from m has))
 
-pub reply_delivers : (p : Columns) (m : FromNode) (sv : ServerState) (answers : List (ℕ × FromServer)) (v : Vec Envelope Global) → sv ≡ server_after (setting_of p.cluster) p.server 1 m →
-    answers ≡ map addressed (server_answers (setting_of p.cluster) p.server 1 m) → v.items ≡ map pair_envelope (filter (is_to_client p.cluster.clients) answers) →
+pub reply_delivers : (p : Columns) (m : FromNode) (sv : ServerState) (answers : List (ℕ × FromServer)) (v : Vec Envelope Global) → sv ≡ server_after (config_of p.cluster) p.server 1 m →
+    answers ≡ map addressed (server_answers (config_of p.cluster) p.server 1 m) → v.items ≡ map pair_envelope (filter (is_to_client p.cluster.clients) answers) →
     Delivers p (record p { server = sv }) (party.Node 1) (party.Server 1) (mail.FromNode m) (got.Made v)
 reply_delivers p m sv answers v after answered is = record {
   cluster = refl;
-  placed = subst ArePlaced (sym (is ∙ ap (λ x. map pair_envelope (filter (is_to_client p.cluster.clients) x)) answered)) (pairs_placed p.cluster.clients (server_answers (setting_of p.cluster) p.server 1 m));
+  fit = subst AreFit (sym (is ∙ ap (λ x. map pair_envelope (filter (is_to_client p.cluster.clients) x)) answered)) (pairs_fit p.cluster.clients (server_answers (config_of p.cluster) p.server 1 m));
   world = λ w has. reply_has p w m sv has after;
   made = λ w has. all w has;
   outcome = λ w has. made_outcome w v.items _ (all w has);
@@ -211,11 +219,11 @@ reply_delivers p m sv answers v after answered is = record {
     all : (w : WorldState) → HasParties p w → v.items ≡ sends w (party.Node 1) (party.Server 1) (mail.FromNode m)
     all w has = is ∙ (ap (λ x. map pair_envelope (filter (is_to_client p.cluster.clients) x)) answered ∙ sym (reply_made p w m has))
 
-pub wish_delivers : (p : Columns) (from : Party) (m : ToServer) (sv : ServerState) (answers : List FromServer) (v : Vec Envelope Global) → sv ≡ served_after (setting_of p.cluster) p.server m →
-    answers ≡ served_answers (setting_of p.cluster) p.server m → v.items ≡ map (answer_from 1 from) answers → AllByRecursion HasPlace answers → Delivers p (record p { server = sv }) from (party.Server 1) (mail.ToServer m) (got.Made v)
+pub wish_delivers : (p : Columns) (from : Party) (m : ToServer) (sv : ServerState) (answers : List FromServer) (v : Vec Envelope Global) → sv ≡ served_after (config_of p.cluster) p.server m →
+    answers ≡ served_answers (config_of p.cluster) p.server m → v.items ≡ map (answer_from 1 from) answers → AllByRecursion HasPlace answers → Delivers p (record p { server = sv }) from (party.Server 1) (mail.ToServer m) (got.Made v)
 wish_delivers p from m sv answers v after answered is each = record {
   cluster = refl;
-  placed = subst ArePlaced (sym is) (answers_placed from answers each);
+  fit = subst AreFit (sym is) (answers_fit from answers each);
   world = λ w has. wish_has p w from m sv has after;
   made = λ w has. all w has;
   outcome = λ w has. made_outcome w v.items _ (all w has);
@@ -228,7 +236,7 @@ pub answer_delivers : (p : Columns) (from : Party) (m : FromServer) (cl : Client
     Delivers p (record p { client = cl }) from (party.Client 1) (mail.FromServer m) (got.Client 1 mark)
 answer_delivers p from m cl mark after is = record {
   cluster = refl;
-  placed = tt;
+  fit = tt;
   world = λ w has. answer_has p w from m cl has after;
   made = λ w has. refl;
   outcome = λ w has. ap (outcome.Client 1) (is ∙ ap (λ (x : ClientState). x.mark) after) ∙ sym (answer_outcome p w from m has);
@@ -237,11 +245,11 @@ answer_delivers p from m cl mark after is = record {
 -- the same, where the party is known to be that one
 
 pub request_goes : (p : Columns) (from to : Party) (m : ToNode) (r : ReplicaState) (reply : FromNode) (v : Vec Envelope Global) → to ≡ party.Node 1 → r ≡ replica_after p.node m → reply ≡ replica_reply p.node m →
-    v.items ≡ record { from = party.Node 1; to = from; message = mail.FromNode reply } ∷ [] → Delivers p (record p { node = r }) from to (mail.ToNode m) (got.Made v)
-request_goes p from to m r reply v there after answered is =
-    subst (λ x. Delivers p (record p { node = r }) from x (mail.ToNode m) (got.Made v)) (sym there) (request_delivers p from m r reply v after answered is)
+    v.items ≡ record { from = party.Node 1; to = from; message = mail.FromNode reply } ∷ [] → IsValidFromNode reply → Delivers p (record p { node = r }) from to (mail.ToNode m) (got.Made v)
+request_goes p from to m r reply v there after answered is valid =
+    subst (λ x. Delivers p (record p { node = r }) from x (mail.ToNode m) (got.Made v)) (sym there) (request_delivers p from m r reply v after answered is valid)
 
-pub reply_goes : (p : Columns) (from to : Party) (c : Setting) (m : FromNode) (sv : ServerState) (answers : List (ℕ × FromServer)) (v : Vec Envelope Global) → from ≡ party.Node 1 → to ≡ party.Server 1 → c ≡ setting_of p.cluster →
+pub reply_goes : (p : Columns) (from to : Party) (c : Config) (m : FromNode) (sv : ServerState) (answers : List (ℕ × FromServer)) (v : Vec Envelope Global) → from ≡ party.Node 1 → to ≡ party.Server 1 → c ≡ config_of p.cluster →
     sv ≡ server_after c p.server 1 m → answers ≡ map addressed (server_answers c p.server 1 m) → v.items ≡ map pair_envelope (filter (is_to_client p.cluster.clients) answers) →
     Delivers p (record p { server = sv }) from to (mail.FromNode m) (got.Made v)
 reply_goes p from to c m sv answers v here there set after answered is =
@@ -253,7 +261,7 @@ one_each : (answer : Option FromServer) → IfSome answer HasPlace → AllByRecu
 one_each None placed = tt
 one_each (Some m) placed = (placed, tt)
 
-pub wish_goes : (p : Columns) (from to : Party) (c : Setting) (m : ToServer) (sv : ServerState) (answer : Option FromServer) (v : Vec Envelope Global) → to ≡ party.Server 1 → c ≡ setting_of p.cluster → sv ≡ served_after c p.server m →
+pub wish_goes : (p : Columns) (from to : Party) (c : Config) (m : ToServer) (sv : ServerState) (answer : Option FromServer) (v : Vec Envelope Global) → to ≡ party.Server 1 → c ≡ config_of p.cluster → sv ≡ served_after c p.server m →
     option_to_list answer ≡ served_answers c p.server m → v.items ≡ map (answer_from 1 from) (option_to_list answer) → IfSome answer HasPlace → Delivers p (record p { server = sv }) from to (mail.ToServer m) (got.Made v)
 wish_goes p from to c m sv answer v there set after answered is placed =
     subst (λ x. Delivers p (record p { server = sv }) from x (mail.ToServer m) (got.Made v)) (sym there)
@@ -264,10 +272,10 @@ wish_goes p from to c m sv answer v there set after answered is placed =
 other_within : (n k : ℕ) → n ≡ 1 → k ≢ 1 → is_within n k ≡ false
 other_within n k single other = grind (arith, nat_tests, single, other)
 
-nothing : (p : Columns) (from to : Party) (m : Mail) (v : Vec Envelope Global) → v.items ≡ [] → ((w : WorldState) → HasParties p w → taken w from to m ≡ w) → ((w : WorldState) → HasParties p w → sends w from to m ≡ []) → ((w : WorldState) → HasParties p w → mail_outcome w from to m ≡ outcome.Quiet) → Delivers p p from to m (got.Made v)
+nothing : (p : Columns) (from to : Party) (m : Mail) (v : Vec Envelope Global) → v.items ≡ [] → ((w : WorldState) → HasParties p w → taken w no_files from to m ≡ w) → ((w : WorldState) → HasParties p w → sends w from to m ≡ []) → ((w : WorldState) → HasParties p w → mail_outcome w from to m ≡ outcome.Quiet) → Delivers p p from to m (got.Made v)
 nothing p from to m v empty same none quiet = record {
   cluster = refl;
-  placed = subst ArePlaced (sym empty) tt;
+  fit = subst AreFit (sym empty) tt;
   world = λ w has. let P : WorldState → Type 0 = λ x. HasParties p x in subst P (sym (same w has)) has;
   made = λ w has. empty ∙ sym (none w has);
   outcome = λ w has. ap (λ l. items_outcome (items_from (length w.sent + 1) l)) empty ∙ sym (quiet w has);
@@ -367,7 +375,7 @@ pub record IsKept (w x : WorldState) : Type 0 where
 same_kept : (w : WorldState) → IsKept w w
 same_kept w = record { number = refl; kept = refl; sent = refl; cursor = refl }
 
-node_kept : (w : WorldState) (i : ℕ) (r : ReplicaState) → IsKept w (with_node w i r)
+node_kept : (w : WorldState) (i : ℕ) (r : ReplicaState) → IsKept w (with_node w i r no_files)
 node_kept w i r = record { number = refl; kept = refl; sent = refl; cursor = refl }
 
 server_kept : (w : WorldState) (v : ℕ) (sv : ServerState) → IsKept w (with_server w v sv)
@@ -376,16 +384,16 @@ server_kept w v sv = record { number = refl; kept = refl; sent = refl; cursor = 
 client_kept : (w : WorldState) (clients : ℕ → ClientState) → IsKept w (record w { clients = clients })
 client_kept w clients = record { number = refl; kept = refl; sent = refl; cursor = refl }
 
-taken_kept : (w : WorldState) (from to : Party) (m : Mail) → IsKept w (taken w from to m)
+taken_kept : (w : WorldState) (from to : Party) (m : Mail) → IsKept w (taken w no_files from to m)
 taken_kept w from (party.Node i) (mail.ToNode m) = either (IsKept w) (is_within w.cluster.nodes i) _ _ (node_kept w i (replica_after (w.nodes i) m)) (same_kept w)
 taken_kept w from (party.Server v) (mail.ToNode m) = same_kept w
 taken_kept w from (party.Client c) (mail.ToNode m) = same_kept w
-taken_kept w (party.Node i) (party.Server v) (mail.FromNode m) = either (IsKept w) (is_within w.cluster.nodes i && is_within w.cluster.servers v) _ _ (server_kept w v (server_after (setting_of w.cluster) (w.servers v) i m)) (same_kept w)
+taken_kept w (party.Node i) (party.Server v) (mail.FromNode m) = either (IsKept w) (is_within w.cluster.nodes i && is_within w.cluster.servers v) _ _ (server_kept w v (server_after (config_of w.cluster) (w.servers v) i m)) (same_kept w)
 taken_kept w (party.Node i) (party.Node j) (mail.FromNode m) = same_kept w
 taken_kept w (party.Node i) (party.Client c) (mail.FromNode m) = same_kept w
 taken_kept w (party.Server u) to (mail.FromNode m) = same_kept w
 taken_kept w (party.Client c) to (mail.FromNode m) = same_kept w
-taken_kept w from (party.Server v) (mail.ToServer m) = either (IsKept w) (is_within w.cluster.servers v) _ _ (server_kept w v (served_after (setting_of w.cluster) (w.servers v) m)) (same_kept w)
+taken_kept w from (party.Server v) (mail.ToServer m) = either (IsKept w) (is_within w.cluster.servers v) _ _ (server_kept w v (served_after (config_of w.cluster) (w.servers v) m)) (same_kept w)
 taken_kept w from (party.Node i) (mail.ToServer m) = same_kept w
 taken_kept w from (party.Client c) (mail.ToServer m) = same_kept w
 taken_kept w from (party.Client c) (mail.FromServer m) = either (IsKept w) (is_within w.cluster.clients c) _ _ (client_kept w (put w.clients c (client_after (w.clients c) m))) (same_kept w)
@@ -393,7 +401,7 @@ taken_kept w from (party.Node i) (mail.FromServer m) = same_kept w
 taken_kept w from (party.Server v) (mail.FromServer m) = same_kept w
 
 -- `read`
-pub read_shown : (p : Columns) (n : ℕ) (k : Option ℕ) (s : List Envelope) (d : ℕ) (w : WorldState) → IsShown p n k s d w → IsShown p n (Some n) s d (happens w (event.Read 1))
+pub read_shown : (p : Columns) (n : ℕ) (k : Option ℕ) (s : List Envelope) (d : ℕ) (w : WorldState) → IsShown p n k s d w → IsShown p n (Some n) s d (happens w plain (event.Read 1))
 read_shown p n k s d w is = record {
   parties = has_same p w _ is.parties refl refl refl refl;
   number = is.number;
@@ -402,7 +410,7 @@ read_shown p n k s d w is = record {
   cursor = is.cursor;
 }
 
-pub read_gives : (p : Columns) (n : ℕ) (k : Option ℕ) (s : List Envelope) (d : ℕ) (w : WorldState) → IsShown p n k s d w → outcome.Read n ≡ outcome_of w (event.Read 1)
+pub read_gives : (p : Columns) (n : ℕ) (k : Option ℕ) (s : List Envelope) (d : ℕ) (w : WorldState) → IsShown p n k s d w → outcome.Read n ≡ outcome_of w plain (event.Read 1)
 read_gives p n k s d w is = ap outcome.Read (sym is.number)
 
 -- `cas`
@@ -410,12 +418,12 @@ read_gives p n k s d w is = ap outcome.Read (sym is.number)
 kept_is : (p : Columns) (n : ℕ) (k : Option ℕ) (s : List Envelope) (d : ℕ) (w : WorldState) → IsShown p n k s d w → w.kept 1 ≡ k
 kept_is p n k s d w is = ap (λ (f : ℕ → Option ℕ). f 1) is.kept
 
-pub unread_shown : (p : Columns) (n : ℕ) (k : Option ℕ) (s : List Envelope) (d : ℕ) (w : WorldState) → k ≡ None → IsShown p n k s d w → IsShown p n k s d (happens w (event.Cas 1))
+pub unread_shown : (p : Columns) (n : ℕ) (k : Option ℕ) (s : List Envelope) (d : ℕ) (w : WorldState) → k ≡ None → IsShown p n k s d w → IsShown p n k s d (happens w plain (event.Cas 1))
 unread_shown p n k s d w none is =
     let P : Option ℕ → Type 0 = λ x. IsShown p n k s d (after_cas w 1 x) in
     subst P (sym (kept_is p n k s d w is ∙ none)) is
 
-pub unread_gives : (p : Columns) (n : ℕ) (k : Option ℕ) (s : List Envelope) (d : ℕ) (w : WorldState) → k ≡ None → IsShown p n k s d w → outcome.Unread ≡ outcome_of w (event.Cas 1)
+pub unread_gives : (p : Columns) (n : ℕ) (k : Option ℕ) (s : List Envelope) (d : ℕ) (w : WorldState) → k ≡ None → IsShown p n k s d w → outcome.Unread ≡ outcome_of w plain (event.Cas 1)
 unread_gives p n k s d w none is = sym (ap (outcome_of_cas w) (kept_is p n k s d w is ∙ none))
 
 answer_is : (p : Columns) (n : ℕ) (k : Option ℕ) (s : List Envelope) (d from : ℕ) (w : WorldState) (answer : CasAnswer) → k ≡ Some from → answer ≡ cas_answer n from → IsShown p n k s d w → cas_answer w.number from ≡ answer
@@ -439,7 +447,7 @@ server_has p w sv has = record {
   clients = has.clients;
 }
 
-pub won_shown : (p : Columns) (n : ℕ) (k : Option ℕ) (s : List Envelope) (d from session : ℕ) (w : WorldState) → k ≡ Some from → answer.Won session ≡ cas_answer n from → IsShown p n k s d w → IsShown (record p { server = drawn session }) session None s d (happens w (event.Cas 1))
+pub won_shown : (p : Columns) (n : ℕ) (k : Option ℕ) (s : List Envelope) (d from session : ℕ) (w : WorldState) → k ≡ Some from → answer.Won session ≡ cas_answer n from → IsShown p n k s d w → IsShown (record p { server = drawn session }) session None s d (happens w plain (event.Cas 1))
 won_shown p n k s d from session w some given is =
     let P : Option ℕ → Type 0 = λ x. IsShown (record p { server = drawn session }) session None s d (after_cas w 1 x) in
     let Q : CasAnswer → Type 0 = λ x. IsShown (record p { server = drawn session }) session None s d (after_answer w 1 x) in
@@ -452,19 +460,19 @@ won_shown p n k s d from session w some given is =
       cursor = is.cursor;
     }))
 
-pub lost_shown : (p : Columns) (n : ℕ) (k : Option ℕ) (s : List Envelope) (d from number : ℕ) (w : WorldState) → k ≡ Some from → answer.Lost number ≡ cas_answer n from → IsShown p n k s d w → IsShown p n None s d (happens w (event.Cas 1))
+pub lost_shown : (p : Columns) (n : ℕ) (k : Option ℕ) (s : List Envelope) (d from number : ℕ) (w : WorldState) → k ≡ Some from → answer.Lost number ≡ cas_answer n from → IsShown p n k s d w → IsShown p n None s d (happens w plain (event.Cas 1))
 lost_shown p n k s d from number w some given is =
     let P : Option ℕ → Type 0 = λ x. IsShown p n None s d (after_cas w 1 x) in
     let Q : CasAnswer → Type 0 = λ x. IsShown p n None s d (after_answer w 1 x) in
     subst P (sym (kept_is p n k s d w is ∙ some)) (subst Q (sym (answer_is p n k s d from w (answer.Lost number) some given is)) (used_up p n k s d w is))
 
-pub exhausted_shown : (p : Columns) (n : ℕ) (k : Option ℕ) (s : List Envelope) (d from : ℕ) (w : WorldState) → k ≡ Some from → answer.Exhausted ≡ cas_answer n from → IsShown p n k s d w → IsShown p n None s d (happens w (event.Cas 1))
+pub exhausted_shown : (p : Columns) (n : ℕ) (k : Option ℕ) (s : List Envelope) (d from : ℕ) (w : WorldState) → k ≡ Some from → answer.Exhausted ≡ cas_answer n from → IsShown p n k s d w → IsShown p n None s d (happens w plain (event.Cas 1))
 exhausted_shown p n k s d from w some given is =
     let P : Option ℕ → Type 0 = λ x. IsShown p n None s d (after_cas w 1 x) in
     let Q : CasAnswer → Type 0 = λ x. IsShown p n None s d (after_answer w 1 x) in
     subst P (sym (kept_is p n k s d w is ∙ some)) (subst Q (sym (answer_is p n k s d from w answer.Exhausted some given is)) (used_up p n k s d w is))
 
-pub cas_gives : (p : Columns) (n : ℕ) (k : Option ℕ) (s : List Envelope) (d from : ℕ) (w : WorldState) (given : CasAnswer) → k ≡ Some from → given ≡ cas_answer n from → IsShown p n k s d w → cas_outcome given ≡ outcome_of w (event.Cas 1)
+pub cas_gives : (p : Columns) (n : ℕ) (k : Option ℕ) (s : List Envelope) (d from : ℕ) (w : WorldState) (given : CasAnswer) → k ≡ Some from → given ≡ cas_answer n from → IsShown p n k s d w → cas_outcome given ≡ outcome_of w plain (event.Cas 1)
 cas_gives p n k s d from w given some is_given is =
     sym (ap (outcome_of_cas w) (kept_is p n k s d w is ∙ some) ∙ ap cas_outcome (answer_is p n k s d from w given some is_given is))
 
@@ -482,101 +490,51 @@ sent_shown p n k s s' d w made is more = record {
 pub sent_gives : (w : WorldState) (s made : List Envelope) → w.sent ≡ s → items_outcome (items_from (length s + 1) made) ≡ sent_outcome w made
 sent_gives w s made same = ap (λ l. items_outcome (items_from (length l + 1) made)) (sym same) ∙ sym (sent_outcome-items w made)
 
-pub placed_more : (s s' made : List Envelope) → s' ≡ s ++ made → ArePlaced s → ArePlaced made → ArePlaced s'
-placed_more s s' made more old new = subst ArePlaced (sym more) (AllByRecursion-append _ s made old new)
+pub fit_more : (s s' made : List Envelope) → s' ≡ s ++ made → AreFit s → AreFit made → AreFit s'
+fit_more s s' made more old new = subst AreFit (sym more) (AllByRecursion-append _ s made old new)
 
-answer_tested : (m : FromServer) → answer_placed m ≡ true → HasPlace m
-answer_tested (to_client.Entry r) is = let small : r.id < 2 ^ 48 = grind (arith, nat_tests, is) in small
-answer_tested (to_client.Committed request id) is = tt
-answer_tested (to_client.Pending request id) is = tt
-answer_tested (to_client.Refused request refusal) is = tt
-answer_tested (to_client.Heads from committed heads) is = tt
-answer_tested (to_client.Flushed committed) is = tt
-answer_tested (to_client.Unserved refusal) is = tt
-
-answer_passes : (m : FromServer) → HasPlace m → answer_placed m ≡ true
-answer_passes (to_client.Entry r) is = grind (arith, nat_tests, is)
-answer_passes (to_client.Committed request id) is = refl
-answer_passes (to_client.Pending request id) is = refl
-answer_passes (to_client.Refused request refusal) is = refl
-answer_passes (to_client.Heads from committed heads) is = refl
-answer_passes (to_client.Flushed committed) is = refl
-answer_passes (to_client.Unserved refusal) is = refl
-
-both_true : (a b : Bool) → (a && b) ≡ true → (a ≡ true) × (b ≡ true)
-both_true true b is = (refl, is)
-both_true false b is = absurd cc
-
-true_both : (a b : Bool) → a ≡ true → b ≡ true → (a && b) ≡ true
-true_both a b p q = rw p q
-
-mail_tested : (m : Mail) → mail_placed m ≡ true → HasPlaces m
-mail_tested (mail.ToNode m) is = tt
-mail_tested (mail.FromNode m) is = tt
-mail_tested (mail.ToServer m) is = tt
-mail_tested (mail.FromServer m) is = answer_tested m is
-
-mail_passes : (m : Mail) → HasPlaces m → mail_placed m ≡ true
-mail_passes (mail.ToNode m) is = refl
-mail_passes (mail.FromNode m) is = refl
-mail_passes (mail.ToServer m) is = refl
-mail_passes (mail.FromServer m) is = answer_passes m is
-
-pub messages_placed : (server : ℕ) (messages : List (ℕ × ToNode)) → ArePlaced (map (envelope_from server) messages)
-messages_placed server [] = tt
-messages_placed server (m ∷ messages) = (tt, messages_placed server messages)
+messages_fit : (server : ℕ) (messages : List (ℕ × ToNode)) → AllByRecursion (λ (m : ℕ × ToNode). IsValidToNode m.1) messages → AreFit (map (envelope_from server) messages)
+messages_fit server [] valid = tt
+messages_fit server (m ∷ messages) valid = (valid.0, messages_fit server messages valid.1)
 
 -- `tick`: what is sent in any world with these parties
-pub ticked_is : (p : Columns) (w : WorldState) → HasParties p w → ticked w 1 ≡ map (envelope_from 1) (next_messages (setting_of p.cluster) p.server 1)
+pub ticked_is : (p : Columns) (w : WorldState) → HasParties p w → ticked w 1 ≡ map (envelope_from 1) (next_messages (config_of p.cluster) p.server 1)
 ticked_is p w has =
-    ap (λ (x : WorldState). ticked x 1) (fits p w has) ∙ ap (λ n. map (envelope_from 1) (next_messages (setting_of p.cluster) p.server n)) has.single.0
+    ap (λ (x : WorldState). ticked x 1) (fits p w has) ∙ ap (λ n. map (envelope_from 1) (next_messages (config_of p.cluster) p.server n)) has.single.0
 
-pub messages_are : (p : Columns) (c : Setting) (n : ℕ) (messages : List (ℕ × ToNode)) (made : List Envelope) → c ≡ setting_of p.cluster → n ≡ 1 → messages ≡ next_messages c p.server n → made ≡ map (envelope_from 1) messages → (w : WorldState) → HasParties p w → made ≡ ticked w 1
+pub messages_are : (p : Columns) (c : Config) (n : ℕ) (messages : List (ℕ × ToNode)) (made : List Envelope) → c ≡ config_of p.cluster → n ≡ 1 → messages ≡ next_messages c p.server n → made ≡ map (envelope_from 1) messages → (w : WorldState) → HasParties p w → made ≡ ticked w 1
 messages_are p c n messages made set one are is w has =
-    is ∙ (ap (map (envelope_from 1)) (are ∙ (ap (λ x. next_messages x p.server n) set ∙ ap (next_messages (setting_of p.cluster) p.server) one)) ∙ sym (ticked_is p w has))
+    is ∙ (ap (map (envelope_from 1)) (are ∙ (ap (λ x. next_messages x p.server n) set ∙ ap (next_messages (config_of p.cluster) p.server) one)) ∙ sym (ticked_is p w has))
 
-pub made_placed : (messages : List (ℕ × ToNode)) (made : List Envelope) → made ≡ map (envelope_from 1) messages → ArePlaced made
-made_placed messages made is = subst ArePlaced (sym is) (messages_placed 1 messages)
+pub made_fit : (messages : List (ℕ × ToNode)) (made : List Envelope) → made ≡ map (envelope_from 1) messages → AllByRecursion (λ (m : ℕ × ToNode). IsValidToNode m.1) messages → AreFit made
+made_fit messages made is valid = subst AreFit (sym is) (messages_fit 1 messages valid)
 
--- each envelope has its place, as a test
-
-pub tested : (envelopes : List Envelope) → are_placed envelopes ≡ true → ArePlaced envelopes
-tested [] is = tt
-tested (e ∷ envelopes) is = let parts = both_true (mail_placed e.message) (are_placed envelopes) is in (mail_tested e.message parts.0, tested envelopes parts.1)
-
-pub passes_test : (envelopes : List Envelope) → ArePlaced envelopes → are_placed envelopes ≡ true
-passes_test [] each = refl
-passes_test (e ∷ envelopes) each = true_both (mail_placed e.message) (are_placed envelopes) (mail_passes e.message each.0) (passes_test envelopes each.1)
-
-pub test_more : (s s' made : List Envelope) → s' ≡ s ++ made → are_placed s ≡ true → ArePlaced made → are_placed s' ≡ true
-test_more s s' made more old new = passes_test s' (placed_more s s' made more (tested s old) new)
-
-pub test_at : (s : List Envelope) (d : ℕ) (e : Envelope) → are_placed s ≡ true → slice_get s d ≡ Some e → HasPlaces e.message
-test_at s d e is found = AllByRecursion-get (λ (x : Envelope). HasPlaces x.message) s d e (tested s is) found
+pub fit_at : (s : List Envelope) (d : ℕ) (e : Envelope) → AreFit s → slice_get s d ≡ Some e → IsFit e.message
+fit_at s d e fit found = AllByRecursion-get (λ (x : Envelope). IsFit x.message) s d e fit found
 
 -- `next`
 
 found_is : (p : Columns) (n : ℕ) (k : Option ℕ) (s : List Envelope) (d : ℕ) (w : WorldState) → IsShown p n k s d w → envelope_of w w.cursor ≡ slice_get s d
 found_is p n k s d w is =
-    let back : w.cursor - 1 ≡ d = omega (arith, is.cursor) in
-    ap (slice_get w.sent) back ∙ ap (λ l. slice_get l d) is.sent
+    let next : w.cursor ≡ suc d = omega (arith, is.cursor) in
+    ap (λ l. envelope_at (record { sent = l; cursor = w.cursor }) w.cursor) is.sent ∙ ap (λ c. envelope_at (record { sent = s; cursor = w.cursor }) c) next
 
-pub none_shown : (p : Columns) (n : ℕ) (k : Option ℕ) (s : List Envelope) (d : ℕ) (w : WorldState) → slice_get s d ≡ None → IsShown p n k s d w → IsShown p n k s d (happens w event.Next)
+pub none_shown : (p : Columns) (n : ℕ) (k : Option ℕ) (s : List Envelope) (d : ℕ) (w : WorldState) → slice_get s d ≡ None → IsShown p n k s d w → IsShown p n k s d (happens w plain event.Next)
 none_shown p n k s d w none is =
-    let P : Option Envelope → Type 0 = λ x. IsShown p n k s d (delivered (advanced w x) x) in
+    let P : Option Envelope → Type 0 = λ x. IsShown p n k s d (delivered (advanced w x) no_files x) in
     subst P (sym (found_is p n k s d w is ∙ none)) is
 
-pub none_gives : (p : Columns) (n : ℕ) (k : Option ℕ) (s : List Envelope) (d : ℕ) (w : WorldState) → slice_get s d ≡ None → IsShown p n k s d w → outcome.NoEnvelope ≡ outcome_of w event.Next
+pub none_gives : (p : Columns) (n : ℕ) (k : Option ℕ) (s : List Envelope) (d : ℕ) (w : WorldState) → slice_get s d ≡ None → IsShown p n k s d w → outcome.NoEnvelope ≡ outcome_of w plain event.Next
 none_gives p n k s d w none is = sym (ap (delivery_outcome w) (found_is p n k s d w is ∙ none))
 
-pub next_shown : (p p' : Columns) (n : ℕ) (k : Option ℕ) (s s' : List Envelope) (d : ℕ) (w : WorldState) (e : Envelope) (given : Got) → slice_get s d ≡ Some e → Delivers p p' e.from e.to e.message given → s' ≡ s ++ made_by given → IsShown p n k s d w → IsShown p' n k s' (d + 1) (happens w event.Next)
+pub next_shown : (p p' : Columns) (n : ℕ) (k : Option ℕ) (s s' : List Envelope) (d : ℕ) (w : WorldState) (e : Envelope) (given : Got) → slice_get s d ≡ Some e → Delivers p p' e.from e.to e.message given → s' ≡ s ++ made_by given → IsShown p n k s d w → IsShown p' n k s' (d + 1) (happens w plain event.Next)
 next_shown p p' n k s s' d w e given found delivers more is =
     let x : WorldState = record w { cursor = w.cursor + 1 } in
-    let y : WorldState = taken x e.from e.to e.message in
+    let y : WorldState = taken x no_files e.from e.to e.message in
     let keeps = taken_kept x e.from e.to e.message in
     let has : HasParties p x = has_same p w x is.parties refl refl refl refl in
     let has' : HasParties p' y = delivers.world x has in
-    let P : Option Envelope → Type 0 = λ o. IsShown p' n k s' (d + 1) (delivered (advanced w o) o) in
+    let P : Option Envelope → Type 0 = λ o. IsShown p' n k s' (d + 1) (delivered (advanced w o) no_files o) in
     subst P (sym (found_is p n k s d w is ∙ found)) (record {
       parties = has_same p' y _ has' refl refl refl refl;
       number = keeps.number ∙ is.number;
@@ -585,7 +543,7 @@ next_shown p p' n k s s' d w e given found delivers more is =
       cursor = keeps.cursor ∙ ap (λ c. c + 1) is.cursor;
     })
 
-pub next_gives : (p p' : Columns) (n : ℕ) (k : Option ℕ) (s : List Envelope) (d : ℕ) (w : WorldState) (e : Envelope) (given : Got) → slice_get s d ≡ Some e → Delivers p p' e.from e.to e.message given → IsShown p n k s d w → outcome_got (length s) given ≡ outcome_of w event.Next
+pub next_gives : (p p' : Columns) (n : ℕ) (k : Option ℕ) (s : List Envelope) (d : ℕ) (w : WorldState) (e : Envelope) (given : Got) → slice_get s d ≡ Some e → Delivers p p' e.from e.to e.message given → IsShown p n k s d w → outcome_got (length s) given ≡ outcome_of w plain event.Next
 next_gives p p' n k s d w e given found delivers is =
     ap (λ l. outcome_got (length l) given) (sym is.sent)
     ∙ (delivers.outcome w is.parties ∙ sym (ap (delivery_outcome w) (found_is p n k s d w is ∙ found)))
@@ -595,14 +553,13 @@ next_gives p p' n k s d w e given found delivers is =
 client_is : (p : Columns) (w : WorldState) → HasParties p w → w.clients 1 ≡ p.client
 client_is p w has = ap (λ (f : ℕ → ClientState). f 1) has.clients
 
-pub submit_shown : (p : Columns) (n : ℕ) (k : Option ℕ) (s s' : List Envelope) (d : ℕ) (w : WorldState) (writes reads : List (List ℕ)) (ops : List ℕ) → is_spent p.client ≡ false →
-    s' ≡ s ++ asked 1 1 (wish.Append (built p.client 1 writes reads ops)) ∷ [] → IsShown p n k s d w → IsShown (record p { client = after_build p.client }) n k s' d (happens w (event.Append 1 1 writes reads ops))
-submit_shown p n k s s' d w writes reads ops fresh more is =
+pub submit_shown : (p : Columns) (n : ℕ) (k : Option ℕ) (s s' : List Envelope) (d : ℕ) (w : WorldState) (writes reads : List (List ℕ)) (ops : List ℕ) → build_refusal p.client writes reads ops ≡ None →
+    s' ≡ s ++ asked 1 1 (wish.Append (built p.client 1 writes reads ops)) ∷ [] → IsShown p n k s d w → IsShown (record p { client = after_build p.client }) n k s' d (happens w plain (event.Append 1 1 writes reads ops))
+submit_shown p n k s s' d w writes reads ops builds more is =
     let same = client_is p w is.parties in
     let e : Envelope = submission w 1 1 writes reads ops in
-    let P : Bool → Type 0 = λ b. IsShown (record p { client = after_build p.client }) n k s' d (if b then w else with_sent (record w { clients = put w.clients 1 (after_build (w.clients 1)) }) (e ∷ [])) in
-    let spent : is_spent (w.clients 1) ≡ false = ap is_spent same ∙ fresh in
-    subst P (sym spent) (record {
+    let P : Option BuildFault → Type 0 = λ r. IsShown (record p { client = after_build p.client }) n k s' d (submitted w 1 e r) in
+    subst P (sym (ap (λ x. build_refusal x writes reads ops) same ∙ builds)) (record {
       parties = record {
         cluster = is.parties.cluster;
         single = is.parties.single;
@@ -616,25 +573,22 @@ submit_shown p n k s s' d w writes reads ops fresh more is =
       cursor = is.cursor;
     })
 
-pub submit_gives : (p : Columns) (n : ℕ) (k : Option ℕ) (s : List Envelope) (d : ℕ) (w : WorldState) (writes reads : List (List ℕ)) (ops : List ℕ) → is_spent p.client ≡ false → IsShown p n k s d w →
-    items_outcome (items_from (length s + 1) (asked 1 1 (wish.Append (built p.client 1 writes reads ops)) ∷ [])) ≡ outcome_of w (event.Append 1 1 writes reads ops)
-submit_gives p n k s d w writes reads ops fresh is =
+pub submit_gives : (p : Columns) (n : ℕ) (k : Option ℕ) (s : List Envelope) (d : ℕ) (w : WorldState) (writes reads : List (List ℕ)) (ops : List ℕ) → build_refusal p.client writes reads ops ≡ None → IsShown p n k s d w →
+    items_outcome (items_from (length s + 1) (asked 1 1 (wish.Append (built p.client 1 writes reads ops)) ∷ [])) ≡ outcome_of w plain (event.Append 1 1 writes reads ops)
+submit_gives p n k s d w writes reads ops builds is =
     let same = client_is p w is.parties in
     let e : Envelope = submission w 1 1 writes reads ops in
-    let spent : is_spent (w.clients 1) ≡ false = ap is_spent same ∙ fresh in
     ap (λ x. items_outcome (items_from (length s + 1) (asked 1 1 (wish.Append (built x 1 writes reads ops)) ∷ []))) (sym same)
-    ∙ (sent_gives w s (e ∷ []) is.sent ∙ sym (ap (λ b. if b then outcome.Refused LastRequest else sent_outcome w (e ∷ [])) spent))
+    ∙ (sent_gives w s (e ∷ []) is.sent ∙ sym (ap (submission_outcome w e) (ap (λ x. build_refusal x writes reads ops) same ∙ builds)))
 
-pub spent_shown : (p : Columns) (n : ℕ) (k : Option ℕ) (s : List Envelope) (d : ℕ) (w : WorldState) (writes reads : List (List ℕ)) (ops : List ℕ) → is_spent p.client ≡ true → IsShown p n k s d w → IsShown p n k s d (happens w (event.Append 1 1 writes reads ops))
-spent_shown p n k s d w writes reads ops full is =
-    let spent : is_spent (w.clients 1) ≡ true = ap is_spent (client_is p w is.parties) ∙ full in
-    let P : Bool → Type 0 = λ b. IsShown p n k s d (if b then w else with_sent (record w { clients = put w.clients 1 (after_build (w.clients 1)) }) (submission w 1 1 writes reads ops ∷ [])) in
-    subst P (sym spent) is
+pub refused_shown : (p : Columns) (n : ℕ) (k : Option ℕ) (s : List Envelope) (d : ℕ) (w : WorldState) (writes reads : List (List ℕ)) (ops : List ℕ) (fault : BuildFault) → build_refusal p.client writes reads ops ≡ Some fault → IsShown p n k s d w → IsShown p n k s d (happens w plain (event.Append 1 1 writes reads ops))
+refused_shown p n k s d w writes reads ops fault refused is =
+    let P : Option BuildFault → Type 0 = λ r. IsShown p n k s d (submitted w 1 (submission w 1 1 writes reads ops) r) in
+    subst P (sym (ap (λ x. build_refusal x writes reads ops) (client_is p w is.parties) ∙ refused)) is
 
-pub spent_gives : (p : Columns) (n : ℕ) (k : Option ℕ) (s : List Envelope) (d : ℕ) (w : WorldState) (writes reads : List (List ℕ)) (ops : List ℕ) → is_spent p.client ≡ true → IsShown p n k s d w → outcome.Refused LastRequest ≡ outcome_of w (event.Append 1 1 writes reads ops)
-spent_gives p n k s d w writes reads ops full is =
-    let spent : is_spent (w.clients 1) ≡ true = ap is_spent (client_is p w is.parties) ∙ full in
-    sym (ap (λ b. if b then outcome.Refused LastRequest else sent_outcome w (submission w 1 1 writes reads ops ∷ [])) spent)
+pub refused_gives : (p : Columns) (n : ℕ) (k : Option ℕ) (s : List Envelope) (d : ℕ) (w : WorldState) (writes reads : List (List ℕ)) (ops : List ℕ) (fault : BuildFault) → build_refusal p.client writes reads ops ≡ Some fault → IsShown p n k s d w → outcome.Refused fault ≡ outcome_of w plain (event.Append 1 1 writes reads ops)
+refused_gives p n k s d w writes reads ops fault refused is =
+    sym (ap (submission_outcome w (submission w 1 1 writes reads ops)) (ap (λ x. build_refusal x writes reads ops) (client_is p w is.parties) ∙ refused))
 
 -- `ask`
 
@@ -643,7 +597,7 @@ asked_is p w has = ap (λ x. asked 1 1 (next_ask x)) (client_is p w has)
 
 -- `app`
 
-pub app_gives : (p : Columns) (w : WorldState) (mark : ℕ) (text : List ℕ) → HasParties p w → mark ≡ p.client.mark → text ≡ application_text p.client.app → outcome.App 1 mark text ≡ outcome_of w (event.App 1)
+pub app_gives : (p : Columns) (w : WorldState) (mark : ℕ) (text : List ℕ) → HasParties p w → mark ≡ p.client.mark → text ≡ application_text p.client.app → outcome.App 1 mark text ≡ outcome_of w plain (event.App 1)
 app_gives p w mark text has is same =
     let at = sym (client_is p w has) in
     ap (λ m. outcome.App 1 m text) (is ∙ ap (λ (x : ClientState). x.mark) at) ∙ ap (λ t. outcome.App 1 (w.clients 1).mark t) (same ∙ ap (λ (x : ClientState). application_text x.app) at)
@@ -662,3 +616,16 @@ start_has c single = record {
   servers = fun_ext (λ k. same_choice (k == 1) idle_server);
   clients = fun_ext (λ k. same_choice (k == 1) fresh_client);
 }
+
+-- ---- what the world leaves open
+
+-- no event that is read so far leaves anything open
+pub nothing_open : (event : Event) (w : WorldState) → IsReadEvent event → Allows w event plain
+nothing_open (event.Read server) w read = tt
+nothing_open (event.Cas server) w read = tt
+nothing_open (event.Tick server) w read = tt
+nothing_open event.Next w read = tt
+nothing_open (event.Append client server writes reads ops) w read = tt
+nothing_open (event.Ask client server) w read = tt
+nothing_open (event.App client) w read = tt
+nothing_open _ w read = absurd read

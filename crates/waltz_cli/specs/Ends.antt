@@ -26,6 +26,10 @@ last_line Memory = []
 abbrev pub IsBroken : ℕ → Type 0
 IsBroken status = (status ≡ 11) ⊎ (status ≡ 20)
 
+-- the output failed; want of memory is so only where the sink met it
+abbrev pub IsBrokenBy : Type 0 → ℕ → Type 0
+IsBrokenBy refused status = (status ≡ 11) ⊎ ((status ≡ 20) × refused)
+
 abbrev pub IsBrokenEnd : End → Type 0
 IsBrokenEnd WriteFault = ⊤
 IsBrokenEnd Memory = ⊤

@@ -1,3 +1,4 @@
+pub mod Schedules
 pub mod Nodes
 pub mod Parties
 pub mod Views

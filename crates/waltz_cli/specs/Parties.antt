@@ -1,26 +1,29 @@
 -- The one node, the one server and the one client that the program keeps, as columns of a world of the definitions.
-use Rattle.std.specs.Prelude.{◌≡◌, ℕ, ◌+◌, ◌^◌, ◌&&◌, nat_lt, Bool, true, List, [], ◌∷◌, length, Option, None, Some}
+use Rattle.std.specs.Prelude.{◌≡◌, ℕ, ◌+◌, Bool, List, [], ◌∷◌, length, Option, None, Some}
 use Rattle.std.specs.List.{AllByRecursion}
 use Rattle.proto_model.specs.declared.client_message.FromServer.{FromServer}
-use Rattle.proto_model.specs.declared.client_message.FromServer.TheVariants.{Entry}
+use Rattle.proto_model.specs.Validity.{IsValidToNode, IsValidFromNode}
 use Rattle.proto_model.specs.Tables.{put}
 use Rattle.proto_model.specs.Quorums.{is_within}
 use Rattle.proto_model.specs.Replicas.{ReplicaState, fresh_replica}
 use Rattle.proto_model.specs.Servers.{ServerState, idle_server}
-use Rattle.proto_model.specs.Clients.{ClientState, fresh_client, HasPlace}
+use Rattle.client_core.specs.Clients.{ClientState, fresh_client}
+use Rattle.proto_model.specs.Validity.{HasPlace}
 use Rattle.partition_server.specs.Held.{state_of as server_state}
 use Rattle.client_core.specs.States.{state_of as client_state}
-use Rattle.schedule_text.specs.declared.event.Cluster.{Cluster}
-use Rattle.schedule_text.specs.declared.mail.Envelope.{Envelope}
-use Rattle.schedule_text.specs.declared.outcome.Item.{Item}
-use Rattle.schedule_text.specs.declared.outcome.Outcome.{Outcome}
-use Rattle.schedule_text.specs.declared.outcome.Outcome.TheVariants as outcome
-use Rattle.schedule_text.specs.Mails.{items_from}
-use Rattle.schedule_text.specs.declared.mail.Party.{Party}
-use Rattle.schedule_text.specs.declared.mail.Mail.{Mail}
-use Rattle.schedule_text.specs.declared.mail.Mail.TheVariants as mail
-use Rattle.schedule_text.specs.Worlds.{WorldState, answer_from, taken, sends, mail_outcome}
-use Rattle.schedule_text.specs.declared.mail.Party.TheVariants as party
+use Rattle.net_model.specs.declared.cluster.Cluster.{Cluster}
+use Rattle.net_model.specs.declared.mail.Envelope.{Envelope}
+use Rattle.net_model.specs.declared.shown.Item.{Item}
+use Rattle.net_model.specs.declared.outcome.Outcome.{Outcome}
+use Rattle.net_model.specs.declared.outcome.Outcome.TheVariants as outcome
+use Rattle.net_model.specs.Briefs.{items_from}
+use Rattle.net_model.specs.declared.mail.Party.{Party}
+use Rattle.net_model.specs.declared.mail.Mail.{Mail}
+use Rattle.net_model.specs.declared.mail.Mail.TheVariants as mail
+use Rattle.world_law.specs.Worlds.{WorldState}
+use Rattle.world_law.specs.Deliveries.{answer_from, taken, sends}
+use Rattle.world_law.specs.Outcomes.{mail_outcome}
+use Rattle.net_model.specs.declared.mail.Party.TheVariants as party
 use Rattle.waltz_cli.specs.declared.parties.Parties.{Parties}
 use Rattle.waltz_cli.specs.declared.parties.Got.{Got}
 use Rattle.waltz_cli.specs.declared.parties.Got.TheVariants as got
@@ -43,6 +46,10 @@ columns_of p = record {
 -- a table with one entry, at 1
 abbrev pub only : {A : Type 0} → A → A → ℕ → A
 only other x = put (λ _. other) 1 x
+
+-- the node has no files
+abbrev pub no_files : ℕ → List ℕ
+no_files file = []
 
 -- a world has these parties and no others
 pub record HasParties (p : Columns) (w : WorldState) : Type 0 where
@@ -79,35 +86,20 @@ abbrev pub outcome_got : ℕ → Got → Outcome
 outcome_got count (got.Made envelopes) = items_outcome (items_from (count + 1) envelopes.items)
 outcome_got count (got.Client client mark) = outcome.Client client mark
 
--- a record that a message brings to a client has a place
-abbrev pub HasPlaces : Mail → Type 0
-HasPlaces (mail.FromServer m) = HasPlace m
-HasPlaces (mail.ToNode m) = Unit {0}
-HasPlaces (mail.FromNode m) = Unit {0}
-HasPlaces (mail.ToServer m) = Unit {0}
+-- what the party that a message is for asks of it: a node and a server that it is valid, a client that its record has a place
+abbrev pub IsFit : Mail → Type 0
+IsFit (mail.ToNode m) = IsValidToNode m
+IsFit (mail.FromNode m) = IsValidFromNode m
+IsFit (mail.ToServer m) = Unit {0}
+IsFit (mail.FromServer m) = HasPlace m
 
--- the same as a test
-abbrev pub answer_placed : FromServer → Bool
-answer_placed (Entry r) = nat_lt r.id (2 ^ 48)
-answer_placed _ = true
-
-abbrev pub mail_placed : Mail → Bool
-mail_placed (mail.FromServer m) = answer_placed m
-mail_placed (mail.ToNode m) = true
-mail_placed (mail.FromNode m) = true
-mail_placed (mail.ToServer m) = true
-
-abbrev pub are_placed : List Envelope → Bool
-are_placed [] = true
-are_placed (e ∷ envelopes) = mail_placed e.message && are_placed envelopes
-
-abbrev pub ArePlaced : List Envelope → Type 0
-ArePlaced envelopes = AllByRecursion (λ (e : Envelope). HasPlaces e.message) envelopes
+abbrev pub AreFit : List Envelope → Type 0
+AreFit envelopes = AllByRecursion (λ (e : Envelope). IsFit e.message) envelopes
 
 -- what a delivery makes of any world with these parties, what it sends, and its outcome
 pub record Delivers (old new : Columns) (from to : Party) (m : Mail) (given : Got) : Type 0 where
   pub cluster : new.cluster ≡ old.cluster
-  pub world : (w : WorldState) → HasParties old w → HasParties new (taken w from to m)
-  pub placed : ArePlaced (made_by given)
+  pub world : (w : WorldState) → HasParties old w → HasParties new (taken w no_files from to m)
+  pub fit : AreFit (made_by given)
   pub made : (w : WorldState) → HasParties old w → made_by given ≡ sends w from to m
   pub outcome : (w : WorldState) → HasParties old w → outcome_got (length w.sent) given ≡ mail_outcome w from to m

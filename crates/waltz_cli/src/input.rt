@@ -1,17 +1,20 @@
-ghost use Rattle.std.specs.Prelude.{◌≡◌, ◌↔◌, [], ◌≤◌, IfOk, IfSome, IfNone, IsTrue, length};
+ghost use Rattle.std.specs.Prelude.{◌≡◌, ◌≢◌, ◌↔◌, [], ◌≤◌, IfOk, IfSome, IfNone, IsTrue, length, Contains};
 ghost use Rattle.std.specs.Io.KnownBytes.{prepend_known};
-ghost use Rattle.io_core.specs.Causes.{Rose, HasCauseOrMemory};
-ghost use Rattle.io_core.specs.Lines.{TakesPart};
-ghost use Rattle.schedule_text.specs.declared.event.Cluster.{Cluster as ClusterValue};
-ghost use Rattle.schedule_text.specs.Schedules.{is_cas, IsBuiltFirst, IsTaken, IsBuildable};
-ghost use Rattle.waltz_cli.specs.Steps.{IsNextOf, IsBuiltOrNot, FirstOf, LastOf};
+ghost use Rattle.io_core.specs.Causes.{HasCauseOrMemory};
+ghost use Rattle.io_core.specs.Lines.{TakesPart, IsReadWhileOpen};
+ghost use Rattle.net_model.specs.declared.cluster.Cluster.{Cluster as ClusterValue};
+ghost use Rattle.client_core.specs.Clients.{fresh_client};
+ghost use Rattle.client_core.specs.Building.{build_refusal};
+ghost use Rattle.waltz_cli.specs.Schedules.{is_cas, IsBuiltFirst, IsTaken};
+ghost use Rattle.waltz_cli.specs.Steps.{IsNextOf, IsBuiltOrNot, IsEventOrNot, FirstOf, LastOf, ReadsOn, Counts};
 
 use crate::end::End;
 use client_core::Client;
 use io_core::{Fault, MAX_LINE, Pending, ReadLine, Source, next_byte, next_line};
-use kv_app::{KvApp, op_texts_spell_their_ops};
+use kv_app::KvApp;
+use net_model::{Cluster, Event};
 use proto_model::BuildFault;
-use schedule_text::{Cluster, Event, LineFault, read_cluster, read_event};
+use schedule_text::{LineFault, read_cluster, read_event};
 use std::alloc::{AllocError, Global};
 use tx_model::{Locks, OpText};
 
@@ -34,7 +37,7 @@ impl Input {
 }
 
 /// What the next line of a schedule is.
-#[derive(Debug, Drop)]
+#[derive(Drop)]
 pub enum Next {
     Event(Event),
     /// It is no built line.
@@ -62,7 +65,9 @@ pub fn next_event<S: Source>(
         (prepend_known input.old.pending (S.left source.old)) (prepend_known input.new.pending (S.left source.new))
         cluster.now tried next) }
     ensures failed { result ≡ Err Fault.Failed → (input.new.pending ≡ [])
-        × TakesPart (prepend_known input.old.pending (S.left source.old)) (S.left source.new) }
+        × TakesPart 512 (prepend_known input.old.pending (S.left source.old)) (S.left source.new) }
+    ensures ready { Contains input.old.pending 10 → source.new ≡ source.old }
+    ensures reads { ReadsOn S.left S.before source.old source.new 512 input.old.pending }
     ensures cause { HasCauseOrMemory (S.faults source.old) (S.faults source.new) result }
 {
     match next_line(source, &mut input.pending, &mut input.line) {
@@ -87,14 +92,20 @@ fn built_event(
     ensures { IfOk result (IsBuiltOrNot cluster.now tried line.now) }
 {
     match read_event(alloc, line, cluster) {
-        Ok(event) => {
-            if !is_taken(alloc, &event, tried)? {
-                return Ok(Next::Unbuilt);
-            }
-            Ok(Next::Event(event))
-        }
+        Ok(event) => if_taken(alloc, event, tried),
         Err(LineFault::Bad) => Ok(Next::Unbuilt),
         Err(LineFault::Memory) => Err(AllocError),
+    }
+}
+
+// The event, where it may come.
+fn if_taken(alloc: Global, event: Event, tried: bool) -> Result<Next, AllocError>
+    ensures { IfOk result (IsEventOrNot tried event) }
+{
+    if is_taken(alloc, &event, tried)? {
+        Ok(Next::Event(event))
+    } else {
+        Ok(Next::Unbuilt)
     }
 }
 
@@ -114,9 +125,8 @@ fn is_taken(alloc: Global, event: &Event, tried: bool) -> Result<bool, AllocErro
 
 // Whether a client would build a transaction of these: it is built once, aside.
 fn can_build(alloc: Global, writes: &Locks, reads: &Locks, ops: &OpText) -> Result<bool, AllocError>
-    ensures { IfOk result (λ can. IsTrue can ↔ IsBuildable writes.now reads.now ops.now) }
+    ensures { IfOk result (λ can. IsTrue can ↔ (build_refusal fresh_client writes.now reads.now ops.now ≡ None)) }
 {
-    op_texts_spell_their_ops();
     let mut client = Client::new(alloc, 1, 1, KvApp::new(alloc));
     let writes = writes.copy(alloc)?.into_items();
     let reads = reads.copy(alloc)?.into_items();
@@ -150,11 +160,13 @@ fn built_cluster(line: &[u8]) -> Option<Cluster>
 
 /// Reads the first line.
 pub fn read_first<S: Source>(source: &mut S, input: &mut Input) -> Result<Cluster, End>
+    requires { input.old.pending ≡ [] }
     ensures first { FirstOf
         (prepend_known input.old.pending (S.left source.old)) (prepend_known input.new.pending (S.left source.new)) result }
     ensures empty { result ≡ Err End.ReadFault → input.new.pending ≡ [] }
-    ensures read { S.faults source.old ≤ S.faults source.new }
-    ensures read_fault { result ≡ Err End.ReadFault → Rose (S.faults source.old) (S.faults source.new) }
+    ensures reads { ReadsOn S.left S.before source.old source.new 512 [] }
+    ensures begun { result ≢ Err End.Memory → IsReadWhileOpen 512 [] (S.left source.old) (S.before source.new) (S.left source.new) }
+    ensures faults { Counts (S.faults source.old) (S.faults source.new) (result ≡ Err End.ReadFault) }
 {
     match next_line(source, &mut input.pending, &mut input.line) {
         Ok(ReadLine::Line) => match built_cluster(&input.line) {
@@ -172,9 +184,9 @@ pub fn read_first<S: Source>(source: &mut S, input: &mut Input) -> Result<Cluste
 pub fn read_last<S: Source>(source: &mut S, input: &mut Input) -> End
     ensures last { LastOf
         (prepend_known input.old.pending (S.left source.old)) (prepend_known input.new.pending (S.left source.new)) result }
-    ensures empty { result ≡ End.ReadFault → input.new.pending ≡ [] }
-    ensures read { S.faults source.old ≤ S.faults source.new }
-    ensures read_fault { result ≡ End.ReadFault → Rose (S.faults source.old) (S.faults source.new) }
+    ensures empty { result ≡ End.ReadFault → (input.old.pending ≡ []) × (input.new.pending ≡ []) }
+    ensures reads { result ≡ End.Limit → ReadsOn S.left S.before source.old source.new 0 input.old.pending }
+    ensures faults { Counts (S.faults source.old) (S.faults source.new) (result ≡ End.ReadFault) }
 {
     match next_byte(source, &mut input.pending) {
         Ok(Some(_)) => End::Limit,

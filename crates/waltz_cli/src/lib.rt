@@ -11,6 +11,3 @@ mod top;
 mod world;
 
 pub use top::run;
-
-#[cfg(test)]
-mod tests;

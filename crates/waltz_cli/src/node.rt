@@ -1,5 +1,8 @@
 ghost use Rattle.std.specs.Prelude.{◌≡◌, ◌≤◌, ◌-◌, ◌++◌, length, drop, take, IfOk, OnOk, OnErr, IfNone};
 ghost use Rattle.tx_model.specs.Records.{IsBatch};
+ghost use Rattle.tx_model.specs.Spelling.{IsCount};
+ghost use Rattle.proto_model.specs.Sanity.{request_session};
+ghost use Rattle.proto_model.specs.Validity.{IsValidToNode, IsValidFromNode};
 ghost use Rattle.proto_model.specs.Replicas.{fresh_replica, next_staged, replica_after, replica_reply};
 
 use proto_model::{FromNode, ToNode};
@@ -149,6 +152,19 @@ impl Node {
 
     /// Takes a message, and answers it. Where memory is short the node is as it was.
     pub fn step(&mut self, m: &ToNode) -> Result<FromNode, AllocError>
+        requires { IsCount (request_session m.now) }
+        ensures state { OnOk result (self.new ≡ replica_after self.old m.now) }
+        ensures reply { IfOk result (λ reply. reply ≡ replica_reply self.old m.now) }
+        ensures valid { IsValidToNode m.now → IfOk result IsValidFromNode }
+        ensures memory { OnErr result (self.new ≡ self.old) }
+    {
+        // So what is true of every node is known below.
+        let _ = &self.alloc;
+        self.take(m)
+    }
+
+    fn take(&mut self, m: &ToNode) -> Result<FromNode, AllocError>
+        requires { IsCount (request_session m.now) }
         ensures state { OnOk result (self.new ≡ replica_after self.old m.now) }
         ensures reply { IfOk result (λ reply. reply ≡ replica_reply self.old m.now) }
         ensures memory { OnErr result (self.new ≡ self.old) }
@@ -164,6 +180,7 @@ impl Node {
     }
 
     fn take_open(&mut self, session: u64) -> FromNode
+        requires { IsCount session }
         ensures state { self.new ≡ replica_after self.old (ToNode.Open session) }
         ensures reply { result ≡ replica_reply self.old (ToNode.Open session) }
     {
@@ -291,6 +308,3 @@ impl Node {
         FromNode::LowSet(session, self.low)
     }
 }
-
-#[cfg(test)]
-mod tests;

@@ -1,14 +1,15 @@
-ghost use Rattle.std.specs.Prelude.{◌≡◌, ◌⊎◌, ◌++◌, [], OnOk, OnErr, IfErr, ◌≤◌};
+ghost use Rattle.std.specs.Prelude.{◌≡◌, ◌⊎◌, ◌++◌, [], OnOk, OnErr, IfErr, ◌≤◌, ◌<◌};
 ghost use Rattle.std.specs.Io.KnownBytes.{Appends};
 ghost use Rattle.io_core.specs.Bytes.{AppendsPrefix};
 ghost use Rattle.io_core.specs.Causes.{Rose};
 ghost use Rattle.schedule_text.specs.Outcomes.{outcome_line};
 ghost use Rattle.waltz_cli.specs.Ends.{IsBrokenEnd};
-ghost use Rattle.waltz_cli.specs.Steps.{AddsLast, Finishes};
+ghost use Rattle.waltz_cli.specs.Steps.{AddsLast, Counts, Finishes};
 
 use crate::end::End;
 use io_core::{Fault, Sink, write_all};
-use schedule_text::{Outcome, print_outcome};
+use net_model::Outcome;
+use schedule_text::print_outcome;
 use std::alloc::{AllocError, Global};
 use std::fmt::Write;
 
@@ -64,8 +65,8 @@ impl Output {
         ensures written { OnOk result (Appends (W.contents sink.old) (W.contents sink.new) self.old.waiting.items) }
         ensures broken { IfErr result IsBrokenEnd × OnErr result (AppendsPrefix (W.contents sink.old) (W.contents sink.new) self.old.waiting.items) }
         ensures empty { self.new.waiting.items ≡ [] }
-        ensures later { W.faults sink.old ≤ W.faults sink.new }
-        ensures fault { result ≡ Err End.WriteFault → Rose (W.faults sink.old) (W.faults sink.new) }
+        ensures faults { Counts (W.faults sink.old) (W.faults sink.new) (result ≡ Err End.WriteFault) }
+        ensures wants { Counts (W.wants sink.old) (W.wants sink.new) (result ≡ Err End.Memory) }
     {
         let written = write_all(sink, &self.waiting);
         self.waiting.clear();
@@ -76,13 +77,19 @@ impl Output {
         }
     }
 
-    /// Writes what waits and the last line of an end, and gives the status.
+    /// Writes what waits and the last line of an end, and gives the status. Where a write has failed, no more is tried.
     pub fn finish<W: Sink>(&mut self, sink: &mut W, end: End) -> u8
-        ensures ends { Finishes (W.contents sink.old) (W.contents sink.new) self.old.waiting.items end result }
+        ensures ends { Finishes (Rose (W.wants sink.old) (W.wants sink.new)) (W.contents sink.old) (W.contents sink.new) self.old.waiting.items end result }
+        ensures failed { end ≡ End.WriteFault → (result ≡ 11) × (sink.new ≡ sink.old) }
         ensures later { W.faults sink.old ≤ W.faults sink.new }
         ensures fault { result ≡ 11 → (end ≡ End.WriteFault) ⊎ Rose (W.faults sink.old) (W.faults sink.new) }
+        ensures told { W.faults sink.old < W.faults sink.new → result ≡ 11 }
+        ensures wants { W.wants sink.old ≤ W.wants sink.new }
         ensures read_fault { result ≡ 10 → end ≡ End.ReadFault }
     {
+        if end == End::WriteFault {
+            return end.status();
+        }
         let end = self.print_end(end);
         match self.write(sink) {
             Ok(()) => end.status(),

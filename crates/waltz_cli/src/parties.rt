@@ -3,9 +3,9 @@ ghost use Rattle.std.specs.Prelude.{◌≡◌, ◌∷◌, [], IfOk};
 use crate::node::Node;
 use client_core::Client;
 use kv_app::KvApp;
+use net_model::{Cluster, Envelope, Mail, Party};
 use partition_server::Server;
 use proto_model::{FromNode, FromServer, ToNode, ToServer};
-use schedule_text::{Cluster, Envelope, Mail, Party};
 use std::alloc::{AllocError, Global};
 
 /// The one node, the one server and the one client of a world.
@@ -41,9 +41,10 @@ impl Parties {
     ghost use Rattle.std.specs.Prelude.{◌≡◌, ◌≤◌, map, filter, IfOk};
     ghost use Rattle.tx_model.specs.Records.{IsPlace};
     ghost use Rattle.proto_model.specs.Servers.{drawn};
-    ghost use Rattle.proto_model.specs.Clients.{HasPlace};
-    ghost use Rattle.schedule_text.specs.Worlds.{WorldState, start, ticked};
-    ghost use Rattle.waltz_cli.specs.Parties.{columns_of, pair_envelope, is_to_client, HasParties, HasPlaces, ArePlaced, Delivers};
+    ghost use Rattle.proto_model.specs.Validity.{HasPlace, IsValidToNode, IsValidFromNode};
+    ghost use Rattle.world_law.specs.Worlds.{WorldState, start};
+    ghost use Rattle.world_law.specs.Steps.{ticked};
+    ghost use Rattle.waltz_cli.specs.Parties.{columns_of, pair_envelope, is_to_client, HasParties, IsFit, AreFit, Delivers};
 
     /// The parties before the first event.
     pub fn new(alloc: Global, cluster: Cluster) -> Result<Parties, AllocError>
@@ -75,7 +76,7 @@ impl Parties {
     /// The server's next messages, in the order of the nodes.
     pub fn messages(&self) -> Result<Vec<Envelope>, AllocError>
         ensures made { IfOk result (λ made. (w : WorldState) → HasParties (columns_of self.now) w → made.items ≡ ticked w 1) }
-        ensures placed { IfOk result (λ made. ArePlaced made.items) }
+        ensures fit { IfOk result (λ made. AreFit made.items) }
     {
         let mut made = Vec::new(self.alloc);
         for (node, m) in self.server.tick()? {
@@ -91,14 +92,14 @@ impl Parties {
     /// Delivers an envelope. A node's reply goes to who asked, and a server's answer too. Of parties that met want of
     /// memory nothing is promised.
     pub fn deliver(&mut self, envelope: &Envelope) -> Result<Got, AllocError>
-        requires { HasPlaces envelope.now.message }
+        requires { IsFit envelope.now.message }
         ensures { IfOk result (Delivers (columns_of self.old) (columns_of self.new) envelope.now.from envelope.now.to envelope.now.message) }
     {
         match &envelope.message {
-            Mail::ToNode(m) => self.take_request(envelope.from, envelope.to, m),
-            Mail::FromNode(m) => self.take_reply(envelope.from, envelope.to, m),
-            Mail::ToServer(m) => self.take_wish(envelope.from, envelope.to, m),
-            Mail::FromServer(m) => self.take_answer(envelope.from, envelope.to, m),
+            Mail::ToNode(m) => self.take_to_node(envelope.from, envelope.to, m),
+            Mail::FromNode(m) => self.take_from_node(envelope.from, envelope.to, m),
+            Mail::ToServer(m) => self.take_to_server(envelope.from, envelope.to, m),
+            Mail::FromServer(m) => self.take_from_server(envelope.from, envelope.to, m),
         }
     }
 
@@ -120,7 +121,8 @@ impl Parties {
     }
 
     // A server's request to a node.
-    fn take_request(&mut self, from: Party, to: Party, m: &ToNode) -> Result<Got, AllocError>
+    fn take_to_node(&mut self, from: Party, to: Party, m: &ToNode) -> Result<Got, AllocError>
+        requires { IsValidToNode m.now }
         ensures { IfOk result (Delivers (columns_of self.old) (columns_of self.new) from to (Mail.ToNode m.now)) }
     {
         match to {
@@ -141,7 +143,8 @@ impl Parties {
     }
 
     // A node's reply to a server.
-    fn take_reply(&mut self, from: Party, to: Party, m: &FromNode) -> Result<Got, AllocError>
+    fn take_from_node(&mut self, from: Party, to: Party, m: &FromNode) -> Result<Got, AllocError>
+        requires { IsValidFromNode m.now }
         ensures { IfOk result (Delivers (columns_of self.old) (columns_of self.new) from to (Mail.FromNode m.now)) }
     {
         if from != Party::Node(1) {
@@ -157,7 +160,7 @@ impl Parties {
     }
 
     // A client's request to a server.
-    fn take_wish(&mut self, from: Party, to: Party, m: &ToServer) -> Result<Got, AllocError>
+    fn take_to_server(&mut self, from: Party, to: Party, m: &ToServer) -> Result<Got, AllocError>
         ensures { IfOk result (Delivers (columns_of self.old) (columns_of self.new) from to (Mail.ToServer m.now)) }
     {
         match to {
@@ -180,7 +183,12 @@ impl Parties {
     }
 
     // A server's answer to a client.
-    fn take_answer(&mut self, from: Party, to: Party, m: &FromServer) -> Result<Got, AllocError>
+    fn take_from_server(
+        &mut self,
+        from: Party,
+        to: Party,
+        m: &FromServer,
+    ) -> Result<Got, AllocError>
         requires { HasPlace m.now }
         ensures { IfOk result (Delivers (columns_of self.old) (columns_of self.new) from to (Mail.FromServer m.now)) }
     {

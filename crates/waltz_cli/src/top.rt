@@ -1,6 +1,7 @@
-ghost use Rattle.std.specs.Prelude.{◌≡◌, ◌≢◌, ◌↔◌, [], ◌∷◌, map, codes, string_bytes, IsTrue};
+ghost use Rattle.std.specs.Prelude.{◌≡◌, ◌≢◌, ◌⊎◌, ◌<◌, ◌↔◌, [], ◌∷◌, map, codes, string_bytes, IsTrue};
 ghost use Rattle.io_core.specs.Causes.{Rose};
-ghost use Rattle.schedule_text.specs.Runs.{EveryRunIsSound};
+ghost use Rattle.waltz_cli.specs.Ends.{IsBroken};
+ghost use Rattle.world_law.specs.Laws.{EveryRunIsSound};
 ghost use Rattle.waltz_cli.specs.Replays.{PrintsReplay, ComesExactly, PrintsUsage};
 
 use crate::end::End;
@@ -26,17 +27,20 @@ fn is_replay(words: &[String]) -> bool
 pub fn run<S: Source, W: Sink>(alloc: Global, words: &[String], source: &mut S, sink: &mut W) -> u8
     // What is printed is a run of the world, and the status says how it ended.
     ensures replay { map string_bytes words.now ≡ codes "replay" ∷ []
-        → PrintsReplay (S.left source.old) (S.left source.new) (W.contents sink.old) (W.contents sink.new) result }
+        → PrintsReplay (S.left source.old) (S.before source.new) (S.left source.new) (W.contents sink.old) (W.contents sink.new)
+        (Rose (W.wants sink.old) (W.wants sink.new)) result }
     ensures exactly { map string_bytes words.now ≡ codes "replay" ∷ [] → ComesExactly (S.left source.old) result }
     ensures sound { EveryRunIsSound }
 
     // Other words touch nothing but the output.
-    ensures usage { map string_bytes words.now ≢ codes "replay" ∷ [] → PrintsUsage (W.contents sink.old) (W.contents sink.new) result }
+    ensures usage { map string_bytes words.now ≢ codes "replay" ∷ [] → PrintsUsage (Rose (W.wants sink.old) (W.wants sink.new)) (W.contents sink.old) (W.contents sink.new) result }
     ensures untouched { map string_bytes words.now ≢ codes "replay" ∷ [] → source.new ≡ source.old }
 
-    // A fault is told only where it was counted.
+    // A fault is told only where it was counted, and is told where it was.
     ensures read { result ≡ 10 → Rose (S.faults source.old) (S.faults source.new) }
     ensures write { result ≡ 11 → Rose (W.faults sink.old) (W.faults sink.new) }
+    ensures read_told { S.faults source.old < S.faults source.new → (result ≡ 10) ⊎ IsBroken result }
+    ensures write_told { W.faults sink.old < W.faults sink.new → result ≡ 11 }
 {
     let mut output = Output::new(alloc);
     if !is_replay(words) {

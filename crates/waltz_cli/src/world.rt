@@ -1,20 +1,21 @@
 ghost use Rattle.std.specs.Prelude.{◌≡◌, ◌<◌, ◌≤◌, ◌^◌, ◌+◌, ◌++◌, ◌∷◌, [], length, IfOk, OnOk};
-ghost use Rattle.schedule_text.specs.Events.{IsInRange};
-ghost use Rattle.schedule_text.specs.Schedules.{CanHappen, IsBuildable};
-ghost use Rattle.schedule_text.specs.Worlds.{asked};
-ghost use Rattle.schedule_text.specs.Registers.{cas_answer, number_after};
-ghost use Rattle.schedule_text.specs.Mails.{item_of, items_from};
+ghost use Rattle.net_model.specs.Events.{IsInRange};
+ghost use Rattle.schedule_text.specs.Events.{IsReadEvent};
+ghost use Rattle.world_law.specs.Steps.{asked};
+ghost use Rattle.session_register.specs.Registers.{cas_answer, number_after};
+ghost use Rattle.net_model.specs.Briefs.{item_of, items_from};
 ghost use Rattle.waltz_cli.specs.Parties.{items_outcome};
 
 use crate::parties::{Got, Parties};
-use kv_app::{App, op_texts_spell_their_ops};
+use kv_app::App;
+use net_model::{AppText, Cluster, Envelope, Event, Item, Items, Mail, Outcome, Party};
 use proto_model::{BuildFault, ToServer};
-use schedule_text::{AppText, Cas, Cluster, Envelope, Event, Item, Items, Mail, Outcome, Party};
+use session_register::Cas;
 use std::alloc::{AllocError, Global};
-use tx_model::Lock;
+use tx_model::{Lock, MAX_PLACE};
 
-/// The greatest session number.
-const LAST_SESSION: u64 = 281474976710655;
+/// So many envelopes have numbers. A world that would send more has no memory for them.
+const MAX_ENVELOPES: usize = 4294967295;
 
 /// The world of one node, one server and one client.
 #[derive(Drop)]
@@ -41,13 +42,25 @@ fn compare_and_set(number: u64, from: u64) -> Cas
     if number != from {
         return Cas::Lost(number);
     }
-    if number == LAST_SESSION {
+    if number == MAX_PLACE {
         return Cas::Exhausted;
     }
     Cas::Won(number + 1)
 }
 
-// Sends an envelope, whose number is its place.
+// Keeps an envelope, and answers its number, which is its place.
+fn keep(sent: &mut Vec<Envelope>, envelope: Envelope) -> Result<u32, AllocError>
+    ensures sent { OnOk result (sent.new.items ≡ sent.old.items ++ envelope ∷ []) }
+    ensures number { IfOk result (λ number. number ≡ length sent.old.items + 1) }
+{
+    if sent.len() >= MAX_ENVELOPES {
+        return Err(AllocError);
+    }
+    sent.push(envelope)?;
+    Ok(sent.len() as u32)
+}
+
+// Sends an envelope.
 fn send(alloc: Global, sent: &mut Vec<Envelope>, envelope: Envelope) -> Result<Item, AllocError>
     ensures sent { OnOk result (sent.new.items ≡ sent.old.items ++ envelope ∷ []) }
     ensures item { IfOk result (λ item. item ≡ item_of (length sent.old.items + 1) envelope) }
@@ -55,9 +68,9 @@ fn send(alloc: Global, sent: &mut Vec<Envelope>, envelope: Envelope) -> Result<I
     let from = envelope.from;
     let to = envelope.to;
     let brief = envelope.message.brief(alloc)?;
-    sent.push(envelope)?;
+    let number = keep(sent, envelope)?;
     Ok(Item {
-        number: sent.len() as u64,
+        number,
         from,
         to,
         brief,
@@ -107,9 +120,8 @@ fn submit(alloc: Global, sent: &mut Vec<Envelope>, m: ToServer) -> Result<Outcom
 }
 
 impl World {
-    ghost use Rattle.std.specs.Prelude.{true};
-    ghost use Rattle.schedule_text.specs.Worlds.{start};
-    ghost use Rattle.waltz_cli.specs.Parties.{are_placed};
+    ghost use Rattle.world_law.specs.Worlds.{start};
+    ghost use Rattle.waltz_cli.specs.Parties.{AreFit};
     ghost use Rattle.waltz_cli.specs.Views.{Shows, Happens};
 
     /// The world before the first event.
@@ -119,7 +131,7 @@ impl World {
         requires slots { (1 ≤ cluster.slots) × (cluster.slots ≤ 4096) }
         ensures start { IfOk result (λ world. Shows world (start cluster)) }
         ensures cluster { IfOk result (λ world. world.parties.cluster ≡ cluster) }
-        ensures placed { IfOk result (λ world. are_placed world.sent.items ≡ true) }
+        ensures fit { IfOk result (λ world. AreFit world.sent.items) }
     {
         let parties = Parties::new(alloc, cluster)?;
         Ok(World {
@@ -132,11 +144,11 @@ impl World {
         })
     }
 
-    /// One step of the world. Of a world that met want of memory nothing is promised.
+    /// One step of the world, of the events that are read so far. Of a world that met want of memory nothing is promised.
     pub fn step(&mut self, event: Event) -> Result<Outcome, AllocError>
         requires in_range { IsInRange self.old.parties.cluster event }
-        requires can { CanHappen event }
-        requires placed { are_placed self.old.sent.items ≡ true }
+        requires read { IsReadEvent event }
+        requires fit { AreFit self.old.sent.items }
         ensures { IfOk result (Happens self.old self.new event) }
     {
         match event {
@@ -149,6 +161,7 @@ impl World {
             }
             Event::Ask(_, _) => self.ask(),
             Event::App(_) => self.app(),
+            _ => unreachable!(),
         }
     }
 
@@ -191,7 +204,7 @@ impl World {
 
     // Delivers the envelope at the cursor, which goes on.
     fn next(&mut self) -> Result<Outcome, AllocError>
-        requires { are_placed self.old.sent.items ≡ true }
+        requires { AreFit self.old.sent.items }
         ensures { IfOk result (Happens self.old self.new Event.Next) }
     {
         let Some(envelope) = self.sent.get(self.delivered) else {
@@ -208,25 +221,22 @@ impl World {
         }
     }
 
-    // The client builds a transaction and sends it.
+    // The client builds a transaction and sends it, or says why not.
     fn append(
         &mut self,
         writes: Vec<Lock>,
         reads: Vec<Lock>,
         ops: &[u8],
     ) -> Result<Outcome, AllocError>
-        requires { IsBuildable writes.items reads.items ops.now }
         ensures { IfOk result (Happens self.old self.new (Event.Append 1 1 writes.items reads.items ops.now)) }
     {
-        op_texts_spell_their_ops();
         match self.parties.client.build(writes, reads, ops) {
             Ok(tx) => {
                 let outcome = submit(self.alloc, &mut self.sent, ToServer::Append(tx))?;
                 Ok(outcome)
             }
             Err(BuildFault::Memory) => Err(AllocError),
-            // What can be built is refused only where the request numbers are used up.
-            Err(_) => Ok(Outcome::Refused(BuildFault::LastRequest)),
+            Err(fault) => Ok(Outcome::Refused(fault)),
         }
     }
 

@@ -13,7 +13,9 @@ pub record IsMessageLength (n : ℕ) : Type 0 where
 abbrev pub IsShort : List ℕ → Type 0
 IsShort bytes =
     (length bytes < 4)
-    ⊎ ((4 ≤ length bytes) × IsMessageLength (length_in bytes) × (length bytes < 4 + length_in bytes))
+    ⊎ ((4 ≤ length bytes)
+    × IsMessageLength (length_in bytes)
+    × (length bytes < 4 + length_in bytes))
 
 -- a frame with a length in range stands there, whole
 pub record IsWhole (bytes : List ℕ) : Type 0 where

@@ -15,11 +15,14 @@ use Rattle.wire_codec.specs.Reading.{is_batch, batch_of, are_heads, heads_of, re
 abbrev pub value_of : Layout → Message
 value_of (layout.Whole m) = m
 value_of (layout.Stage session batch) = of.ToNode (to_node.Stage session (batch_of batch.now))
-value_of (layout.AppendBatch session batch) = of.ToNode (to_node.Append session (batch_of batch.now))
-value_of (layout.Records session batch) = of.FromNode (from_node.Records session (batch_of batch.now))
+value_of (layout.AppendBatch session batch) =
+    of.ToNode (to_node.Append session (batch_of batch.now))
+value_of (layout.Records session batch) =
+    of.FromNode (from_node.Records session (batch_of batch.now))
 value_of (layout.AppendTx tx) = of.ToServer (to_server.Append (transaction_of tx.now))
 value_of (layout.Locked request name mark) = refused_with request (refused.Locked name.now mark)
-value_of (layout.Heads from committed heads) = of.FromServer (from_server.Heads from committed (heads_of heads.now))
+value_of (layout.Heads from committed heads) =
+    of.FromServer (from_server.Heads from committed (heads_of heads.now))
 value_of (layout.Entry body) = of.FromServer (from_server.Entry (record_of body.now))
 
 -- whether what it borrows is in form
@@ -29,7 +32,8 @@ is_good (layout.Stage session batch) = is_batch batch.now
 is_good (layout.AppendBatch session batch) = is_batch batch.now
 is_good (layout.Records session batch) = is_batch batch.now
 is_good (layout.AppendTx tx) = is_transaction tx.now
-is_good (layout.Locked request name mark) = nat_le 1 (length name.now) && nat_le (length name.now) 64
+is_good (layout.Locked request name mark) =
+    nat_le 1 (length name.now) && nat_le (length name.now) 64
 is_good (layout.Heads from committed heads) = are_heads from heads.now
 is_good (layout.Entry body) = is_body body.now
 

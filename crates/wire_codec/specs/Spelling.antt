@@ -111,7 +111,8 @@ spelled_to_server to_server.Flush = 3 ∷ 4 ∷ []
 abbrev pub spelled_from_server : FromServer → List ℕ
 spelled_from_server (from_server.Committed request id) = 4 ∷ 1 ∷ two request id
 spelled_from_server (from_server.Pending request id) = 4 ∷ 2 ∷ two request id
-spelled_from_server (from_server.Refused request reason) = 4 ∷ 3 ∷ (one request ++ spelled_refusal reason)
+spelled_from_server (from_server.Refused request reason) =
+    4 ∷ 3 ∷ (one request ++ spelled_refusal reason)
 spelled_from_server (from_server.Heads from committed heads) =
     4 ∷ 4 ∷ (one from ++ (one committed ++ spelled_heads heads))
 spelled_from_server (from_server.Entry r) = 4 ∷ 5 ∷ spelled_entry r

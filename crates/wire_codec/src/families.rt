@@ -5,6 +5,9 @@ ghost use Rattle.wire_codec.specs.Layouts.{Sees};
 use crate::fields::{
     asked_id_in, count_in, request_and_id_in, session_and_count_in, session_and_next_in, session_in,
 };
+use crate::kinds::{
+    control, family, from_node, from_register, from_server, to_node, to_register, to_server,
+};
 use crate::layout::{
     Layout, append_in, entry_in, feed_in, fetch_in, heads_in, opened_in, refused_in,
     session_and_batch_in, unserved_in,
@@ -17,24 +20,24 @@ fn to_node_in(kind: u8, fields: &[u8]) -> Option<Layout<'_>>
     ensures { Sees result (to_node_in kind fields.now) }
 {
     match kind {
-        1 => {
+        to_node::OPEN => {
             let session = session_in(fields)?;
             Some(Layout::Whole(Message::ToNode(ToNode::Open(session))))
         }
-        2 => fetch_in(fields),
-        3 => {
+        to_node::FETCH => fetch_in(fields),
+        to_node::STAGE => {
             let (session, batch) = session_and_batch_in(fields)?;
             Some(Layout::Stage(session, batch))
         }
-        4 => {
+        to_node::ADOPT => {
             let (session, len) = session_and_count_in(fields)?;
             Some(Layout::Whole(Message::ToNode(ToNode::Adopt(session, len))))
         }
-        5 => {
+        to_node::APPEND => {
             let (session, batch) = session_and_batch_in(fields)?;
             Some(Layout::AppendBatch(session, batch))
         }
-        6 => {
+        to_node::LOW => {
             let (session, low) = session_and_count_in(fields)?;
             Some(Layout::Whole(Message::ToNode(ToNode::Low(session, low))))
         }
@@ -49,14 +52,14 @@ fn counted_in(kind: u8, fields: &[u8]) -> Option<Layout<'_>>
 {
     let (session, n) = session_and_count_in(fields)?;
     let m = match kind {
-        2 => FromNode::Stale(session, n),
-        3 => FromNode::Unopened(session, n),
-        5 => FromNode::Staged(session, n),
-        7 => FromNode::Adopted(session, n),
-        8 => FromNode::Acked(session, n),
-        9 => FromNode::Gap(session, n),
-        10 => FromNode::NotAdopted(session, n),
-        11 => FromNode::LowSet(session, n),
+        from_node::STALE => FromNode::Stale(session, n),
+        from_node::UNOPENED => FromNode::Unopened(session, n),
+        from_node::STAGED => FromNode::Staged(session, n),
+        from_node::ADOPTED => FromNode::Adopted(session, n),
+        from_node::ACKED => FromNode::Acked(session, n),
+        from_node::GAP => FromNode::Gap(session, n),
+        from_node::NOT_ADOPTED => FromNode::NotAdopted(session, n),
+        from_node::LOW_SET => FromNode::LowSet(session, n),
         _ => return None,
     };
     Some(Layout::Whole(Message::FromNode(m)))
@@ -67,12 +70,12 @@ fn from_node_in(kind: u8, fields: &[u8]) -> Option<Layout<'_>>
     ensures { Sees result (from_node_in kind fields.now) }
 {
     match kind {
-        1 => opened_in(fields),
-        4 => {
+        from_node::OPENED => opened_in(fields),
+        from_node::RECORDS => {
             let (session, batch) = session_and_batch_in(fields)?;
             Some(Layout::Records(session, batch))
         }
-        6 => {
+        from_node::STAGE_AT => {
             let (session, next) = session_and_next_in(fields)?;
             Some(Layout::Whole(Message::FromNode(FromNode::StageAt(session, next))))
         }
@@ -85,13 +88,15 @@ fn to_server_in(kind: u8, fields: &[u8]) -> Option<Layout<'_>>
     ensures { Sees result (to_server_in kind fields.now) }
 {
     match kind {
-        1 => append_in(fields),
-        2 => feed_in(fields),
-        3 => {
+        to_server::APPEND => append_in(fields),
+        to_server::FEED => feed_in(fields),
+        to_server::GET => {
             let id = asked_id_in(fields)?;
             Some(Layout::Whole(Message::ToServer(ToServer::Get(id))))
         }
-        4 if fields.is_empty() => Some(Layout::Whole(Message::ToServer(ToServer::Flush))),
+        to_server::FLUSH if fields.is_empty() => Some(Layout::Whole(Message::ToServer(
+            ToServer::Flush,
+        ))),
         _ => None,
     }
 }
@@ -101,22 +106,22 @@ fn from_server_in(kind: u8, fields: &[u8]) -> Option<Layout<'_>>
     ensures { Sees result (from_server_in kind fields.now) }
 {
     match kind {
-        1 => {
+        from_server::COMMITTED => {
             let (request, id) = request_and_id_in(fields)?;
             Some(Layout::Whole(Message::FromServer(FromServer::Committed(request, id))))
         }
-        2 => {
+        from_server::PENDING => {
             let (request, id) = request_and_id_in(fields)?;
             Some(Layout::Whole(Message::FromServer(FromServer::Pending(request, id))))
         }
-        3 => refused_in(fields),
-        4 => heads_in(fields),
-        5 => entry_in(fields),
-        6 => {
+        from_server::REFUSED => refused_in(fields),
+        from_server::HEADS => heads_in(fields),
+        from_server::ENTRY => entry_in(fields),
+        from_server::FLUSHED => {
             let committed = count_in(fields)?;
             Some(Layout::Whole(Message::FromServer(FromServer::Flushed(committed))))
         }
-        7 => unserved_in(fields),
+        from_server::UNSERVED => unserved_in(fields),
         _ => None,
     }
 }
@@ -126,8 +131,10 @@ fn to_register_in(kind: u8, fields: &[u8]) -> Option<Layout<'_>>
     ensures { Sees result (to_register_in kind fields.now) }
 {
     match kind {
-        1 if fields.is_empty() => Some(Layout::Whole(Message::ToRegister(ToRegister::Read))),
-        2 => {
+        to_register::READ if fields.is_empty() => Some(Layout::Whole(Message::ToRegister(
+            ToRegister::Read,
+        ))),
+        to_register::CAS => {
             let from = count_in(fields)?;
             Some(Layout::Whole(Message::ToRegister(ToRegister::Cas(from))))
         }
@@ -140,19 +147,19 @@ fn from_register_in(kind: u8, fields: &[u8]) -> Option<Layout<'_>>
     ensures { Sees result (from_register_in kind fields.now) }
 {
     match kind {
-        1 => {
+        from_register::VALUE => {
             let number = count_in(fields)?;
             Some(Layout::Whole(Message::FromRegister(FromRegister::Value(number))))
         }
-        2 => {
+        from_register::WON => {
             let number = count_in(fields)?;
             Some(Layout::Whole(Message::FromRegister(FromRegister::Won(number))))
         }
-        3 => {
+        from_register::LOST => {
             let number = count_in(fields)?;
             Some(Layout::Whole(Message::FromRegister(FromRegister::Lost(number))))
         }
-        4 if fields.is_empty() => Some(Layout::Whole(Message::FromRegister(
+        from_register::EXHAUSTED if fields.is_empty() => Some(Layout::Whole(Message::FromRegister(
             FromRegister::Exhausted,
         ))),
         _ => None,
@@ -164,9 +171,9 @@ fn control_in(kind: u8, fields: &[u8]) -> Option<Layout<'_>>
     ensures { Sees result (control_in kind fields.now) }
 {
     match kind {
-        1 if fields.is_empty() => Some(Layout::Whole(Message::Control(Control::Bye))),
-        2 if fields.is_empty() => Some(Layout::Whole(Message::Control(Control::Done))),
-        3 if fields.is_empty() => Some(Layout::Whole(Message::Control(Control::No))),
+        control::BYE if fields.is_empty() => Some(Layout::Whole(Message::Control(Control::Bye))),
+        control::DONE if fields.is_empty() => Some(Layout::Whole(Message::Control(Control::Done))),
+        control::NO if fields.is_empty() => Some(Layout::Whole(Message::Control(Control::No))),
         _ => None,
     }
 }
@@ -182,13 +189,13 @@ pub(crate) fn layout_of(body: &[u8]) -> Option<Layout<'_>>
     let (_, fields) = body.split_at(2);
     let kind = body[1];
     match body[0] {
-        1 => to_node_in(kind, fields),
-        2 => from_node_in(kind, fields),
-        3 => to_server_in(kind, fields),
-        4 => from_server_in(kind, fields),
-        5 => to_register_in(kind, fields),
-        6 => from_register_in(kind, fields),
-        7 => control_in(kind, fields),
+        family::TO_NODE => to_node_in(kind, fields),
+        family::FROM_NODE => from_node_in(kind, fields),
+        family::TO_SERVER => to_server_in(kind, fields),
+        family::FROM_SERVER => from_server_in(kind, fields),
+        family::TO_REGISTER => to_register_in(kind, fields),
+        family::FROM_REGISTER => from_register_in(kind, fields),
+        family::CONTROL => control_in(kind, fields),
         _ => None,
     }
 }

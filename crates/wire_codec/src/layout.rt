@@ -5,19 +5,15 @@ ghost use Rattle.record_frame.specs.Reading.{number};
 ghost use Rattle.wire_codec.specs.Reading.{is_batch, is_session_and_batch, fetch_in, opened_in, append_in, feed_in, refused_with, unserved_with, locked_in, refusal_in, refused_in, heads_in, entry_in, read_refusal_in, unserved_in};
 ghost use Rattle.wire_codec.specs.Layouts.{Sees};
 
-use crate::fields::{count_in, is_asked_id, phase_in, session_in};
+use crate::fields::{count_in, is_asked_id, is_up_to, phase_in, session_in};
+use crate::kinds::reason;
 use crate::lists::{are_heads, is_batch};
 use crate::message::Message;
 use proto_model::{FromNode, FromServer, ReadRefusal, Refusal, ToNode, ToServer};
 use record_frame::{
     is_body, is_count, is_name, is_next_place, is_place, is_transaction, split_name, u32_in, u64_in,
 };
-
-/// Records that a fetch asks for at most.
-const MAX_FETCH: u8 = 8;
-
-/// Heads that a feed asks for at most.
-const MAX_FEED: u8 = 16;
+use tx_model::{MAX_BATCH, MAX_HEADS};
 
 /// A message that needs no memory, or the numbers and the bytes of one that does.
 #[derive(Drop)]
@@ -48,7 +44,7 @@ pub(crate) fn fetch_in(fields: &[u8]) -> Option<Layout<'_>>
     let session = u64_in(fields, 0);
     let from = u64_in(fields, 8);
     let max = fields[16];
-    if is_place(session) && is_next_place(from) && 1 <= max && max <= MAX_FETCH {
+    if is_place(session) && is_next_place(from) && is_up_to(MAX_BATCH, max) {
         let m = ToNode::Fetch(session, from, max);
         Some(Layout::Whole(Message::ToNode(m)))
     } else {
@@ -82,7 +78,7 @@ pub(crate) fn feed_in(fields: &[u8]) -> Option<Layout<'_>>
     }
     let from = u64_in(fields, 0);
     let max = fields[8];
-    if is_asked_id(from) && 1 <= max && max <= MAX_FEED {
+    if is_asked_id(from) && is_up_to(MAX_HEADS, max) {
         let m = ToServer::Feed(from, max);
         Some(Layout::Whole(Message::ToServer(m)))
     } else {
@@ -175,25 +171,25 @@ fn refused(request: u64, reason: Refusal) -> Option<Layout<'static>>
 
 /// Why a request is refused, by the reason's byte and what follows it.
 #[tactic(auto, unfolding(crate::specs::Reading::refusal_in))]
-fn refusal_in(request: u64, reason: u8, fields: &[u8]) -> Option<Layout<'_>>
-    ensures { Sees result (refusal_in request reason fields.now) }
+fn refusal_in(request: u64, kind: u8, fields: &[u8]) -> Option<Layout<'_>>
+    ensures { Sees result (refusal_in request kind fields.now) }
 {
-    match reason {
-        1 => {
+    match kind {
+        reason::NOT_RUNNING => {
             let phase = phase_in(fields)?;
             refused(request, Refusal::NotRunning(phase))
         }
-        2 => {
+        reason::CLOSED => {
             let session = session_in(fields)?;
             refused(request, Refusal::Closed(session))
         }
-        3 => {
+        reason::MARK_AHEAD => {
             let last = count_in(fields)?;
             refused(request, Refusal::MarkAhead(last))
         }
-        4 => locked_in(request, fields),
-        5 if fields.is_empty() => refused(request, Refusal::WindowFull),
-        6 if fields.is_empty() => refused(request, Refusal::LogFull),
+        reason::LOCKED => locked_in(request, fields),
+        reason::WINDOW_FULL if fields.is_empty() => refused(request, Refusal::WindowFull),
+        reason::LOG_FULL if fields.is_empty() => refused(request, Refusal::LogFull),
         _ => None,
     }
 }
@@ -218,16 +214,16 @@ fn unserved(reason: ReadRefusal) -> Option<Layout<'static>>
 
 /// Why nothing is shown, by the reason's byte and what follows it.
 #[tactic(auto, unfolding(crate::specs::Reading::read_refusal_in))]
-fn read_refusal_in(reason: u8, fields: &[u8]) -> Option<Layout<'_>>
-    ensures { Sees result (read_refusal_in reason fields.now) }
+fn read_refusal_in(kind: u8, fields: &[u8]) -> Option<Layout<'_>>
+    ensures { Sees result (read_refusal_in kind fields.now) }
 {
-    match reason {
-        1 => {
+    match kind {
+        reason::NOT_RUNNING => {
             let phase = phase_in(fields)?;
             unserved(ReadRefusal::NotRunning(phase))
         }
-        7 if fields.is_empty() => unserved(ReadRefusal::BadId),
-        8 => {
+        reason::BAD_ID if fields.is_empty() => unserved(ReadRefusal::BadId),
+        reason::NOT_YET => {
             let committed = count_in(fields)?;
             unserved(ReadRefusal::NotYet(committed))
         }

@@ -8,13 +8,13 @@
 mod building;
 mod families;
 mod fields;
+mod kinds;
 mod laws;
 mod layout;
 mod lists;
+mod measuring;
 mod message;
 mod reading;
-#[cfg(test)]
-mod tests;
 mod writing;
 
 pub use laws::{frames_are_short, messages_have_one_spelling};

@@ -4,10 +4,7 @@ ghost use Rattle.wire_codec.specs.Runs.{are_items, past_items};
 ghost use Rattle.wire_codec.specs.Reading.{is_entry, after_entry, is_batch, is_head, after_head, are_heads};
 
 use record_frame::{after_lists, is_body, is_place, u32_in, u64_in};
-use tx_model::MAX_BATCH;
-
-/// Heads of an answer at most.
-const MAX_HEADS: usize = 16;
+use tx_model::{MAX_BATCH, MAX_HEADS};
 
 /// The bytes after a record with this id behind its length.
 #[tactic(auto, using(record_frame::proofs::Parts::is_body_tells), unfolding(crate::specs::Reading::is_entry))]

@@ -1,7 +1,7 @@
 use proto_model::{FromNode, FromServer, ToNode, ToServer};
 
 /// A message of any family.
-#[derive(Debug, Drop)]
+#[derive(Drop)]
 pub enum Message {
     /// Family 1: from a server to a storage node.
     ToNode(ToNode),
@@ -20,7 +20,7 @@ pub enum Message {
 }
 
 /// What a server asks of the register of sessions.
-#[derive(Clone, Copy, Debug, PartialEq, Eq)]
+#[derive(Clone, Copy, PartialEq, Eq)]
 pub enum ToRegister {
     /// Asks for the number.
     Read,
@@ -29,7 +29,7 @@ pub enum ToRegister {
 }
 
 /// What the register of sessions answers.
-#[derive(Clone, Copy, Debug, PartialEq, Eq)]
+#[derive(Clone, Copy, PartialEq, Eq)]
 pub enum FromRegister {
     /// The number.
     Value(u64),
@@ -42,7 +42,7 @@ pub enum FromRegister {
 }
 
 /// What is said about serving itself.
-#[derive(Clone, Copy, Debug, PartialEq, Eq)]
+#[derive(Clone, Copy, PartialEq, Eq)]
 pub enum Control {
     /// Asks to serve no longer.
     Bye,

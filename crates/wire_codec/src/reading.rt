@@ -97,13 +97,14 @@ pub fn check(bytes: &[u8]) -> Result<usize, FrameFault>
 }
 
 /// The message of the frame at the front, and the frame's length. What follows the frame doesn't matter. The memory that
-/// it takes is bounded by the frame's length.
+/// it takes is bounded by a fixed multiple of the frame's length.
 pub fn decode(alloc: Global, bytes: &[u8]) -> Result<(Message, usize), FrameFault>
     ensures exact { Builds result (message_at bytes.now) }
     ensures found { IfOk result (λ x. BeginsWith SpellsMessage bytes.now x.0 x.1) }
     ensures valid { IfOk result (λ x. IsValidMessage x.0) }
     ensures only { (m : MessageValue) (spelled rest : List ℕ) →
-        SpellsMessage spelled m → bytes.now ≡ spelled ++ rest → OkOrMemory result (m, length spelled) }
+        SpellsMessage spelled m → bytes.now ≡ spelled ++ rest →
+        OkOrMemory result (m, length spelled) }
 
     // The refusals, each by its cause.
     ensures short { (result ≡ Err FrameFault.Short) ↔ IsShort bytes.now }

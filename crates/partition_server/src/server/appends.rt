@@ -1,38 +1,36 @@
-ghost use Rattle.std.specs.Prelude.{◌≡◌, ◌≢◌, ◌<◌, ◌≤◌, ◌+◌, ◌*◌, ◌⊎◌, [], true, length, slice_index_or, None, IfOk, IfErr, OnOk, OnErr};
+ghost use Rattle.std.specs.Prelude.{◌≡◌, ◌≢◌, ◌<◌, ◌≤◌, ◌+◌, ◌*◌, ◌⊎◌, ◌++◌, ◌∷◌, [], true, length, slice_index_or, vec_len, vec_capacity, Option, None, IfOk, IfErr, OnOk, OnErr};
 ghost use Rattle.tx_model.specs.Transactions.{named_locks};
 ghost use Rattle.tx_model.specs.Records.{IsPlace, IsRecord};
-ghost use Rattle.proto_model.specs.Serving.{after_append, append_refusal, assigned, last_id, no_room};
-ghost use Rattle.partition_server.specs.Held.{setting_of, state_of};
-ghost use Rattle.partition_server.specs.Faults.{refusal_of, takes_memory};
+ghost use Rattle.proto_model.specs.Serving.{after_append, append_refusal, assigned, last_id, no_room, refusal_in};
+ghost use Rattle.partition_server.specs.Held.{config_of, state_of};
+ghost use Rattle.partition_server.specs.Faults.{refusal_of, takes_memory, IsLockRefusal, IsRefusedBy, IsValidFault};
 
 use super::Server;
 use crate::{AppendFault, Waiting};
-use proto_model::Phase;
+use proto_model::{Phase, Refusal};
 use std::alloc::{AllocError, Global};
 use std::sync::ledger::Ledger;
-use tx_model::{Lock, Record, Steps, Tx};
+use tx_model::{Lock, MAX_PLACE, Record, Steps, Tx};
 
 // So many records are not committed at most.
 const WINDOW: u64 = 1024;
-
-// The greatest id.
-const LAST_ID: u64 = 281_474_976_710_655;
 
 impl Server {
     /// Assigns the next id to a transaction, whose client and request wait under it from then on, or refuses it. A
     /// refused transaction leaves no trace. Each probed row of the lock table is a step.
     pub fn append<L: Ledger>(&mut self, tx: Tx, steps: &mut Steps<L>) -> Result<u64, AppendFault>
-        ensures taken { OnOk result (append_refusal (setting_of self.old) (state_of self.old) tx ≡ None) }
+        ensures taken { OnOk result (append_refusal (config_of self.old) (state_of self.old) tx ≡ None) }
         ensures id { IfOk result (λ id. id ≡ length self.old.log + 1) }
         ensures after { OnOk result (state_of self.new ≡
-            after_append (setting_of self.old) (state_of self.old) tx) }
-        ensures setting { setting_of self.new ≡ setting_of self.old }
+            after_append (config_of self.old) (state_of self.old) tx) }
+        ensures setting { config_of self.new ≡ config_of self.old }
 
-        // The refusals. Want of memory is one only where no other is.
-        ensures refused { IfErr result (λ fault. (fault ≡ AppendFault.Memory) ⊎
-            (refusal_of fault ≡ append_refusal (setting_of self.old) (state_of self.old) tx)) }
+        // The refusals. Want of memory is one only where no other is, or where the lock that refuses is to be told.
+        ensures refused { IfErr result
+            (IsRefusedBy (append_refusal (config_of self.old) (state_of self.old) tx)) }
+        ensures valid { IfErr result IsValidFault }
         ensures memory { result ≡ Err AppendFault.Memory →
-            takes_memory (append_refusal (setting_of self.old) (state_of self.old) tx) ≡ true }
+            takes_memory (append_refusal (config_of self.old) (state_of self.old) tx) ≡ true }
         ensures kept { OnErr result (self.new ≡ self.old) }
 
         ensures cost { steps.new ≤ steps.old + self.old.rows * length (named_locks tx) }
@@ -45,21 +43,19 @@ impl Server {
     }
 
     // Whether a transaction is taken.
-    fn admit<L: Ledger>(&self, tx: &Tx, steps: &mut Steps<L>) -> Result<(), AppendFault>
-        ensures taken { OnOk result (append_refusal (setting_of self.now) (state_of self.now) tx.now ≡ None) }
-        ensures refused { IfErr result (λ fault. (fault ≡ AppendFault.Memory) ⊎
-            (refusal_of fault ≡ append_refusal (setting_of self.now) (state_of self.now) tx.now)) }
+    pub(crate) fn admit<L: Ledger>(&self, tx: &Tx, steps: &mut Steps<L>) -> Result<(), AppendFault>
+        ensures taken { OnOk result
+            (append_refusal (config_of self.now) (state_of self.now) tx.now ≡ None) }
+        ensures refused { IfErr result
+            (IsRefusedBy (append_refusal (config_of self.now) (state_of self.now) tx.now)) }
+        ensures valid { IfErr result IsValidFault }
         ensures memory { result ≡ Err AppendFault.Memory →
-            takes_memory (append_refusal (setting_of self.now) (state_of self.now) tx.now) ≡ true }
+            IsLockRefusal (append_refusal (config_of self.now) (state_of self.now) tx.now) }
         ensures running { OnOk result (self.now.phase ≡ Phase.Running) }
         ensures room { OnOk result (length self.now.log < last_id) }
         ensures cost { steps.new ≤ steps.old + self.now.rows * length (named_locks tx.now) }
     {
-        match self.phase {
-            Phase::Running => {}
-            Phase::Closed(session) => return Err(AppendFault::Closed(session)),
-            phase => return Err(AppendFault::NotRunning(phase)),
-        }
+        self.check_running()?;
         let last = self.log.len() as u64;
         if tx.mark() > last {
             return Err(AppendFault::MarkAhead(last));
@@ -70,13 +66,31 @@ impl Server {
         check_room(last, self.committed())
     }
 
+    // Whether the server takes transactions.
+    fn check_running(&self) -> Result<(), AppendFault>
+        ensures running { OnOk result (self.now.phase ≡ Phase.Running) }
+        ensures refused { IfErr result (λ fault. (refusal : Option Refusal) →
+            refusal_of fault ≡ refusal_in self.now.phase refusal) }
+        ensures valid { IfErr result IsValidFault }
+        ensures memory { result ≢ Err AppendFault.Memory }
+    {
+        match self.phase {
+            Phase::Running => Ok(()),
+            Phase::Closed(session) => Err(AppendFault::Closed(session)),
+            Phase::Idle => Err(AppendFault::NotRunning(Phase::Idle)),
+            Phase::Opening => Err(AppendFault::NotRunning(Phase::Opening)),
+            Phase::Fetching => Err(AppendFault::NotRunning(Phase::Fetching)),
+            Phase::Repairing => Err(AppendFault::NotRunning(Phase::Repairing)),
+        }
+    }
+
     // Gives a transaction the next id.
-    fn assign(&mut self, tx: Tx) -> Result<u64, AllocError>
+    pub(crate) fn assign(&mut self, tx: Tx) -> Result<u64, AllocError>
         requires running { self.old.phase ≡ Phase.Running }
         requires room { length self.old.log < last_id }
         ensures id { IfOk result (λ id. id ≡ length self.old.log + 1) }
         ensures after { OnOk result (state_of self.new ≡ assigned (state_of self.old) tx) }
-        ensures setting { setting_of self.new ≡ setting_of self.old }
+        ensures setting { config_of self.new ≡ config_of self.old }
         ensures kept { OnErr result (self.new ≡ self.old) }
     {
         let id = self.log.len() as u64 + 1;
@@ -84,10 +98,20 @@ impl Server {
         self.waiting
             .push(Waiting::new(id, tx.client(), tx.request()))?;
         self.locks.note(id, &tx);
-        match self.log.push(assigned_record(id, self.session, tx)) {
-            Ok(()) => Ok(id),
-            Err(_) => unreachable!(),
-        }
+        let entry = assigned_record(id, self.session, tx);
+        push_reserved(&mut self.log, entry);
+        Ok(id)
+    }
+}
+
+// Adds a record for which there is room.
+fn push_reserved(log: &mut Vec<Record>, entry: Record)
+    requires { vec_len log.old + 1 ≤ vec_capacity log.old }
+    ensures { log.new.items ≡ log.old.items ++ entry ∷ [] }
+{
+    match log.push(entry) {
+        Ok(()) => {}
+        Err(_) => unreachable!(),
     }
 }
 
@@ -105,11 +129,16 @@ fn assigned_record(id: u64, session: u64, tx: Tx) -> Record
 // The fault that tells the lock of this place among the named ones.
 fn locked(alloc: Global, tx: &Tx, place: u8, mark: u64) -> AppendFault
     requires { place < length (named_locks tx.now) }
-    ensures { (result ≡ AppendFault.Memory) ⊎
+    ensures told { (result ≡ AppendFault.Memory) ⊎
         (result ≡ AppendFault.Locked (slice_index_or (named_locks tx.now) place []) mark) }
+    ensures valid { IsValidFault result }
 {
     match named_lock(tx, place).copy(alloc) {
-        Ok(lock) => AppendFault::Locked(lock, mark),
+        Ok(lock) => {
+            // So the name is one.
+            let _name = lock.bytes();
+            AppendFault::Locked(lock, mark)
+        }
         Err(_) => AppendFault::Memory,
     }
 }
@@ -135,11 +164,13 @@ fn check_room(last: u64, committed: u64) -> Result<(), AppendFault>
     ensures ok { OnOk result (no_room last committed ≡ None) }
     ensures room { OnOk result (last ≢ last_id) }
     ensures err { IfErr result (λ fault. refusal_of fault ≡ no_room last committed) }
+    ensures valid { IfErr result IsValidFault }
+    ensures memory { result ≢ Err AppendFault.Memory }
 {
     if last - committed == WINDOW {
         return Err(AppendFault::WindowFull);
     }
-    if last == LAST_ID {
+    if last == MAX_PLACE {
         return Err(AppendFault::LogFull);
     }
     Ok(())

@@ -1,14 +1,16 @@
-ghost use Rattle.std.specs.Prelude.{◌≡◌, ◌≢◌, ◌-◌, map, take, drop, Some, None, IfOk, IfErr, OnOk};
+ghost use Rattle.std.specs.Prelude.{◌≡◌, ◌≢◌, ◌≤◌, ◌-◌, [], map, take, drop, Some, None, IfOk, IfErr, OnOk, OnErr};
 ghost use Rattle.tx_model.specs.Records.{IsRecord, head_of};
 ghost use Rattle.tx_model.specs.Logs.{record_at};
+ghost use Rattle.tx_model.specs.Spelling.{IsCount};
+ghost use Rattle.proto_model.specs.Validity.{AreHeads};
 ghost use Rattle.proto_model.specs.Servers.{commit_mark};
 ghost use Rattle.proto_model.specs.Serving.{committed_log, feed, shut_in};
-ghost use Rattle.partition_server.specs.Held.{setting_of, state_of};
+ghost use Rattle.partition_server.specs.Held.{config_of, state_of};
 ghost use Rattle.partition_server.specs.Faults.{entry_refusal, feed_refusal, read_refusal_of};
 
 use super::Server;
 use crate::ReadFault;
-use proto_model::Phase;
+use proto_model::{Phase, ReadRefusal};
 use std::alloc::{AllocError, Global};
 use tx_model::{Head, Record};
 
@@ -16,10 +18,13 @@ impl Server {
     /// The heads of committed records from an id on, so many at most, and the committed mark. From above the committed
     /// mark there are none. A closed server shows what it had committed.
     pub fn feed(&self, from: u64, max: u8) -> Result<(Vec<Head>, u64), ReadFault>
-        ensures heads { IfOk result (λ shown. shown.0.items ≡ feed (setting_of self.now) (state_of self.now) from max) }
-        ensures mark { IfOk result (λ shown. shown.1 ≡ commit_mark (setting_of self.now) (state_of self.now)) }
+        ensures heads { IfOk result (λ shown. shown.0.items ≡ feed (config_of self.now) (state_of self.now) from max) }
+        ensures mark { IfOk result (λ shown. shown.1 ≡ commit_mark (config_of self.now) (state_of self.now)) }
+        ensures valid { max ≤ 16 → IfOk result (λ shown. AreHeads from shown.0.items × IsCount shown.1) }
         ensures shown { OnOk result (feed_refusal (state_of self.now) from ≡ None) }
         ensures refused { IfErr result (λ fault. read_refusal_of fault ≡ feed_refusal (state_of self.now) from) }
+        ensures memory { result ≡ Err ReadFault.Memory →
+            feed (config_of self.now) (state_of self.now) from max ≢ [] }
     {
         self.check_id(from)?;
         let committed = self.committed();
@@ -31,11 +36,11 @@ impl Server {
 
     /// The committed record of an id. A closed server shows what it had committed.
     pub fn entry(&self, id: u64) -> Result<Record, ReadFault>
-        ensures entry { IfOk result (λ r. record_at (committed_log (setting_of self.now) (state_of self.now)) id ≡ Some r) }
+        ensures entry { IfOk result (λ r. record_at (committed_log (config_of self.now) (state_of self.now)) id ≡ Some r) }
         ensures valid { IfOk result IsRecord }
-        ensures shown { OnOk result (entry_refusal (setting_of self.now) (state_of self.now) id ≡ None) }
+        ensures shown { OnOk result (entry_refusal (config_of self.now) (state_of self.now) id ≡ None) }
         ensures refused { IfErr result (λ fault. read_refusal_of fault ≡
-            entry_refusal (setting_of self.now) (state_of self.now) id) }
+            entry_refusal (config_of self.now) (state_of self.now) id) }
     {
         self.check_id(id)?;
         let committed = self.committed();
@@ -50,24 +55,25 @@ impl Server {
 
     /// The committed mark. It takes no memory.
     pub fn flush(&self) -> Result<u64, ReadFault>
-        ensures mark { IfOk result (λ mark. mark ≡ commit_mark (setting_of self.now) (state_of self.now)) }
+        ensures mark { IfOk result (λ mark. mark ≡ commit_mark (config_of self.now) (state_of self.now)) }
+        ensures valid { IfOk result IsCount }
         ensures shown { OnOk result (shut_in self.now.phase ≡ None) }
         ensures refused { IfErr result (λ fault. read_refusal_of fault ≡ shut_in self.now.phase) }
         ensures memory { result ≢ Err ReadFault.Memory }
     {
-        self.check_shown()?;
-        Ok(self.committed())
+        match self.shut() {
+            None => Ok(self.committed()),
+            Some(refusal) => Err(ReadFault::of(refusal)),
+        }
     }
 
-    // Whether the server shows what is committed.
-    fn check_shown(&self) -> Result<(), ReadFault>
-        ensures ok { OnOk result (shut_in self.now.phase ≡ None) }
-        ensures err { IfErr result (λ fault. read_refusal_of fault ≡ shut_in self.now.phase) }
-        ensures memory { result ≢ Err ReadFault.Memory }
+    // Why the server shows nothing, unless it shows what is committed.
+    pub(super) fn shut(&self) -> Option<ReadRefusal>
+        ensures { result ≡ shut_in self.now.phase }
     {
         match self.phase {
-            Phase::Running | Phase::Closed(_) => Ok(()),
-            phase => Err(ReadFault::NotRunning(phase)),
+            Phase::Running | Phase::Closed(_) => None,
+            phase => Some(ReadRefusal::NotRunning(phase)),
         }
     }
 
@@ -78,7 +84,9 @@ impl Server {
         ensures err { IfErr result (λ fault. read_refusal_of fault ≡ feed_refusal (state_of self.now) id) }
         ensures memory { result ≢ Err ReadFault.Memory }
     {
-        self.check_shown()?;
+        if let Some(refusal) = self.shut() {
+            return Err(ReadFault::of(refusal));
+        }
         if id == 0 {
             return Err(ReadFault::BadId);
         }
@@ -89,7 +97,8 @@ impl Server {
 // The heads of a log's records from an id on, so many at most.
 fn heads_from(alloc: Global, log: &[Record], from: u64, max: u8) -> Result<Vec<Head>, AllocError>
     requires { from ≢ 0 }
-    ensures { IfOk result (λ heads. heads.items ≡ map head_of (take max (drop (from - 1) log.now))) }
+    ensures ok { IfOk result (λ heads. heads.items ≡ map head_of (take max (drop (from - 1) log.now))) }
+    ensures memory { OnErr result (map head_of (take max (drop (from - 1) log.now)) ≢ []) }
 {
     let first = (from as usize - 1).min(log.len());
     let rest = &log[first..];

@@ -1,13 +1,17 @@
-ghost use Rattle.std.specs.Prelude.{◌≡◌, ◌≤◌, true, [], map, IfOk, OnOk, OnErr};
-ghost use Rattle.proto_model.specs.Servers.{is_active, is_heard, takes_ack, takes_records, after_ack, ack_answers, after_low, after_records, after_report, after_staged, after_stale, server_after, server_answers, session_of};
-ghost use Rattle.lock_table.specs.Tables.{shape_of, TableStandsFor};
-ghost use Rattle.partition_server.specs.Held.{setting_of, state_of};
+ghost use Rattle.std.specs.Prelude.{◌≡◌, ◌≢◌, ◌≤◌, ◌<◌, true, [], map, drop, length, if◌then◌else◌, nat_le, IfOk, OnOk, OnErr};
+ghost use Rattle.std.specs.List.{AllByRecursion};
+ghost use Rattle.tx_model.specs.Spelling.{IsCount};
+ghost use Rattle.proto_model.specs.Servers.{is_active, is_heard, takes_ack, takes_records, after_ack, ack_answers, after_low, after_records, after_report, after_staged, after_stale, received, received_answers, server_after, server_answers, session_of};
+ghost use Rattle.proto_model.specs.Validity.{IsValidFromNode, IsValidFromServer};
+ghost use Rattle.lock_table.specs.Tables.{table_shape, TableStandsFor};
+ghost use Rattle.partition_server.specs.Held.{config_of, state_of};
 ghost use Rattle.partition_server.specs.Answers.{addressed};
+ghost use Rattle.partition_server.specs.Faults.{AddsOrAnswers};
 
 use super::Server;
-use crate::quorums::{commit_mark, holders};
+use crate::quorums::Acks;
 use crate::recovery::{phase_begun, phase_fetched, phase_reported, recovery_choice};
-use crate::waiting::{due, settle};
+use crate::waiting::{drop_front, due};
 use lock_table::LockTable;
 use proto_model::{FromNode, FromServer, Phase, Report};
 use std::alloc::AllocError;
@@ -19,10 +23,13 @@ impl Server {
         requires some { 1 ≤ report.node }
         requires within { report.node ≤ self.old.nodes }
         requires active { is_active self.old.phase ≡ true }
+        requires count { IsCount report.length }
         ensures ok { OnOk result (state_of self.new ≡
-            after_report (setting_of self.old) (state_of self.old) report) }
-        ensures setting { setting_of self.new ≡ setting_of self.old }
+            after_report (config_of self.old) (state_of self.old) report) }
+        ensures setting { config_of self.new ≡ config_of self.old }
         ensures err { OnErr result (self.new ≡ self.old) }
+        ensures memory { OnErr result (length self.old.reports <
+            length (after_report (config_of self.old) (state_of self.old) report).reports) }
     {
         let at = report.node as usize;
         if self.reported[at] || report.adopted >= self.session {
@@ -38,7 +45,7 @@ impl Server {
 
     fn takes_records(&self, node: u8, first: u64) -> bool
         ensures { result ≡
-            takes_records (setting_of self.now) (state_of self.now) node first }
+            takes_records (config_of self.now) (state_of self.now) node first }
     {
         if !matches!(self.phase, Phase::Fetching) {
             return false;
@@ -52,19 +59,21 @@ impl Server {
     // Records.
     fn extend(&mut self, node: u8, batch: Batch) -> Result<(), AllocError>
         ensures ok { OnOk result (state_of self.new ≡
-            after_records (setting_of self.old) (state_of self.old) node batch) }
-        ensures setting { setting_of self.new ≡ setting_of self.old }
+            after_records (config_of self.old) (state_of self.old) node batch) }
+        ensures setting { config_of self.new ≡ config_of self.old }
         ensures err { OnErr result (self.new ≡ self.old) }
+        ensures memory { OnErr result (length self.old.log <
+            length (after_records (config_of self.old) (state_of self.old) node batch).log) }
     {
         if !self.takes_records(node, batch.first()) {
             return Ok(());
         }
-        let base = self.base();
-        let most = base.saturating_sub(self.log.len() as u64);
+        let chosen_len = self.chosen_len();
+        let most = chosen_len - self.log.len() as u64;
         let mut records = batch.into_records();
         records.truncate(most as usize);
         self.log.append(&mut records)?;
-        self.phase = phase_fetched(self.log.len() as u64, base);
+        self.phase = phase_fetched(self.log.len() as u64, chosen_len);
         Ok(())
     }
 
@@ -72,10 +81,10 @@ impl Server {
     fn stage(&mut self, node: u8, upto: u64)
         requires { node ≤ self.old.nodes }
         ensures value { state_of self.new ≡ after_staged (state_of self.old) node upto }
-        ensures setting { setting_of self.new ≡ setting_of self.old }
+        ensures setting { config_of self.new ≡ config_of self.old }
     {
         let at = node as usize;
-        if self.reported[at] && !self.adopted[at] {
+        if self.reported[at] && !self.acks.adopted[at] {
             self.staged[at] = upto;
         }
     }
@@ -83,63 +92,73 @@ impl Server {
     fn takes_ack(&self, node: u8, length: u64) -> bool
         requires { node ≤ self.now.nodes }
         ensures { result ≡
-            takes_ack (setting_of self.now) (state_of self.now) node length }
+            takes_ack (config_of self.now) (state_of self.now) node length }
     {
         matches!(self.phase, Phase::Repairing | Phase::Running)
             && self.reported[node as usize]
-            && self.base() <= length
+            && self.chosen_len() <= length
             && length <= self.log.len() as u64
     }
 
     // Adopted and Acked.
-    fn acknowledge(&mut self, node: u8, length: u64) -> Result<Vec<(u64, FromServer)>, AllocError>
+    fn acknowledge(&mut self, node: u8, upto: u64) -> Result<Vec<(u64, FromServer)>, AllocError>
         requires some { 1 ≤ node }
         requires within { node ≤ self.old.nodes }
         ensures answers { IfOk result (λ answers. answers.items ≡ map addressed
-            (ack_answers (setting_of self.old) (state_of self.old) node length)) }
+            (ack_answers (config_of self.old) (state_of self.old) node upto)) }
         ensures ok { OnOk result (state_of self.new ≡
-            after_ack (setting_of self.old) (state_of self.old) node length) }
-        ensures setting { setting_of self.new ≡ setting_of self.old }
+            after_ack (config_of self.old) (state_of self.old) node upto) }
+        ensures setting { config_of self.new ≡ config_of self.old }
         ensures err { OnErr result (self.new ≡ self.old) }
+        ensures memory { OnErr result
+            (ack_answers (config_of self.old) (state_of self.old) node upto ≢ []) }
     {
-        if !self.takes_ack(node, length) {
+        if !self.takes_ack(node, upto) {
             return Ok(Vec::new(self.alloc));
         }
-        let at = node as usize;
-        let mut adopted = self.adopted;
-        adopted[at] = true;
-        let mut acked = self.acked;
-        acked[at] = acked[at].max(length);
-        let mark = commit_mark(self.nodes, &adopted, &acked);
+        let mark = self.acks.with(node, upto).mark(self.nodes);
         let answers = due(self.alloc, &self.waiting, mark)?;
-        let adopters = holders(self.nodes, &adopted, &acked, 0);
-        let phase = phase_begun(self.phase, self.nodes, adopters);
-        let base = self.base();
-        begin(&mut self.locks, self.phase, phase, base);
-        self.adopted = adopted;
-        self.acked = acked;
-        self.phase = phase;
-        settle(&mut self.waiting, mark);
+        self.keep(node, upto, answers.len());
         Ok(answers)
+    }
+
+    // Keeps an acknowledgement, by which so many waiting requests are due. With a quorum of adopted nodes the server
+    // runs.
+    fn keep(&mut self, node: u8, upto: u64, due: usize)
+        requires within { node ≤ self.old.nodes }
+        requires takes { takes_ack (config_of self.old) (state_of self.old) node upto ≡ true }
+        requires due { due ≡ length (ack_answers (config_of self.old) (state_of self.old) node upto) }
+        ensures value { state_of self.new ≡
+            after_ack (config_of self.old) (state_of self.old) node upto }
+        ensures setting { config_of self.new ≡ config_of self.old }
+    {
+        let acks = self.acks.with(node, upto);
+        let phase = phase_begun(self.phase, self.nodes, acks.held(self.nodes, 0));
+        let chosen_len = self.chosen_len();
+        start_locks(&mut self.locks, self.phase, phase, chosen_len);
+        self.acks = acks;
+        self.phase = phase;
+        drop_front(&mut self.waiting, due);
     }
 
     // LowSet.
     fn lower(&mut self, node: u8, low: u64)
         requires { node ≤ self.old.nodes }
         ensures value { state_of self.new ≡
-            after_low (setting_of self.old) (state_of self.old) node low }
-        ensures setting { setting_of self.new ≡ setting_of self.old }
+            after_low (config_of self.old) (state_of self.old) node low }
+        ensures setting { config_of self.new ≡ config_of self.old }
     {
         let at = node as usize;
-        if self.adopted[at] && low <= self.committed() {
+        if self.acks.adopted[at] && low <= self.committed() {
             self.lows[at] = self.lows[at].max(low);
         }
     }
 
     // Stale.
     fn close(&mut self, session: u64, promised: u64)
+        requires { IsCount promised }
         ensures value { state_of self.new ≡ after_stale (state_of self.old) session promised }
-        ensures setting { setting_of self.new ≡ setting_of self.old }
+        ensures setting { config_of self.new ≡ config_of self.old }
     {
         if session < promised {
             self.phase = Phase::Closed(promised);
@@ -154,20 +173,45 @@ impl Server {
     }
 
     /// Takes a reply of a node. The answers to the requests whose records it makes committed are returned, each with its
-    /// client's number, in the order of their ids.
+    /// client's number, in the order of their ids. Memory is wanted only where it adds a report or records, or where
+    /// answers are due.
     pub fn receive(&mut self, node: u8, m: FromNode) -> Result<Vec<(u64, FromServer)>, AllocError>
         requires some { 1 ≤ node }
         requires within { node ≤ self.old.nodes }
+        requires valid { IsValidFromNode m }
         ensures answers { IfOk result (λ answers. answers.items ≡ map addressed
-            (server_answers (setting_of self.old) (state_of self.old) node m)) }
+            (server_answers (config_of self.old) (state_of self.old) node m)) }
+        ensures valid { IfOk result (λ answers. AllByRecursion (λ a. IsValidFromServer a.1) answers.items) }
         ensures ok { OnOk result (state_of self.new ≡
-            server_after (setting_of self.old) (state_of self.old) node m) }
-        ensures setting { setting_of self.new ≡ setting_of self.old }
+            server_after (config_of self.old) (state_of self.old) node m) }
+        ensures setting { config_of self.new ≡ config_of self.old }
         ensures err { OnErr result (self.new ≡ self.old) }
+        ensures memory { OnErr result (AddsOrAnswers (state_of self.old)
+            (server_after (config_of self.old) (state_of self.old) node m)
+            (server_answers (config_of self.old) (state_of self.old) node m)) }
     {
         if !self.hears(&m) {
             return Ok(Vec::new(self.alloc));
         }
+        self.take_reply(node, m)
+    }
+
+    // Takes a reply in the server's session.
+    fn take_reply(&mut self, node: u8, m: FromNode) -> Result<Vec<(u64, FromServer)>, AllocError>
+        requires some { 1 ≤ node }
+        requires within { node ≤ self.old.nodes }
+        requires active { is_active self.old.phase ≡ true }
+        requires valid { IsValidFromNode m }
+        ensures answers { IfOk result (λ answers. answers.items ≡ map addressed
+            (received_answers (config_of self.old) (state_of self.old) node m)) }
+        ensures ok { OnOk result (state_of self.new ≡
+            received (config_of self.old) (state_of self.old) node m) }
+        ensures setting { config_of self.new ≡ config_of self.old }
+        ensures err { OnErr result (self.new ≡ self.old) }
+        ensures memory { OnErr result (AddsOrAnswers (state_of self.old)
+            (received (config_of self.old) (state_of self.old) node m)
+            (received_answers (config_of self.old) (state_of self.old) node m)) }
+    {
         match m {
             FromNode::Opened(_, adopted, low, length) => self.report(Report {
                 node,
@@ -212,8 +256,8 @@ fn session_of(m: &FromNode) -> u64
 }
 
 // Where the server begins to run, all locks have the recovered mark.
-fn begin(locks: &mut LockTable, before: Phase, after: Phase, recovered: u64)
-    ensures shape { shape_of locks.new ≡ shape_of locks.old }
+fn start_locks(locks: &mut LockTable, before: Phase, after: Phase, recovered: u64)
+    ensures shape { table_shape locks.new ≡ table_shape locks.old }
     ensures kept { before ≡ Phase.Running → locks.new ≡ locks.old }
     ensures begun { before ≡ Phase.Repairing → after ≡ Phase.Running → TableStandsFor locks.new recovered [] }
 {

@@ -1,12 +1,15 @@
-ghost use Rattle.std.specs.Prelude.{◌≡◌, ◌≤◌, true, false, slice_index_or, IfOk};
-ghost use Rattle.proto_model.specs.Servers.{in_repair};
+ghost use Rattle.std.specs.Prelude.{◌≡◌, ◌≤◌, true, false, slice_index_or, IfOk, IfSome};
+ghost use Rattle.std.specs.List.{AllByRecursion};
+ghost use Rattle.proto_model.specs.Servers.{has_fetched, is_active};
 ghost use Rattle.proto_model.specs.Sending.{append_message, fetching_message, next_message, next_messages, repair_message};
-ghost use Rattle.partition_server.specs.Held.{setting_of, state_of};
+ghost use Rattle.proto_model.specs.Validity.{IsValidToNode};
+ghost use Rattle.partition_server.specs.Held.{config_of, state_of};
 
 use super::Server;
 use crate::batches::batch_after;
 use proto_model::{Phase, ToNode};
 use std::alloc::AllocError;
+use tx_model::MAX_BATCH;
 
 impl Server {
     // To the chosen node, while its log is fetched.
@@ -14,13 +17,13 @@ impl Server {
         requires phase { self.now.phase ≡ Phase.Fetching }
         requires reported { slice_index_or self.now.reported node false ≡ true }
         ensures { result ≡
-            fetching_message (setting_of self.now) (state_of self.now) node }
+            fetching_message (config_of self.now) (state_of self.now) node }
     {
         let last = self.log.len() as u64;
         match self.chosen() {
             Some(report) => {
                 if report.node == node {
-                    let most = report.length.saturating_sub(last).min(8);
+                    let most = (report.length - last).min(MAX_BATCH as u64);
                     return Some(ToNode::Fetch(self.session, last + 1, most as u8));
                 }
                 None
@@ -32,27 +35,27 @@ impl Server {
     // To a node that has not adopted.
     fn repair_message(&self, node: u8) -> Result<ToNode, AllocError>
         requires within { node ≤ self.now.nodes }
-        requires repairs { in_repair self.now.phase ≡ true }
+        requires repairs { has_fetched self.now.phase ≡ true }
         ensures { IfOk result (λ m.
-            Some m ≡ repair_message (setting_of self.now) (state_of self.now) node) }
+            Some m ≡ repair_message (config_of self.now) (state_of self.now) node) }
     {
-        let base = self.base();
+        let chosen_len = self.chosen_len();
         let staged = self.staged[node as usize];
-        if staged < base {
-            let chosen = &self.log[..base as usize];
+        if staged < chosen_len {
+            let chosen = &self.log[..chosen_len as usize];
             let batch = batch_after(self.alloc, chosen, staged)?;
             return Ok(ToNode::Stage(self.session, batch));
         }
-        Ok(ToNode::Adopt(self.session, base))
+        Ok(ToNode::Adopt(self.session, chosen_len))
     }
 
     // To a node that has adopted.
     fn append_message(&self, node: u8) -> Result<Option<ToNode>, AllocError>
         requires { node ≤ self.now.nodes }
         ensures { IfOk result (λ m.
-            m ≡ append_message (setting_of self.now) (state_of self.now) node) }
+            m ≡ append_message (config_of self.now) (state_of self.now) node) }
     {
-        let acked = self.acked[node as usize];
+        let acked = self.acks.acked[node as usize];
         if acked < self.log.len() as u64 {
             let batch = batch_after(self.alloc, &self.log, acked)?;
             return Ok(Some(ToNode::Append(self.session, batch)));
@@ -69,19 +72,30 @@ impl Server {
     pub fn next_for(&self, node: u8) -> Result<Option<ToNode>, AllocError>
         requires some { 1 ≤ node }
         requires within { node ≤ self.now.nodes }
-        ensures { IfOk result (λ m.
-            m ≡ next_message (setting_of self.now) (state_of self.now) node) }
+        ensures value { IfOk result (λ m.
+            m ≡ next_message (config_of self.now) (state_of self.now) node) }
+        ensures valid { IfOk result (λ m. IfSome m IsValidToNode) }
     {
         if matches!(self.phase, Phase::Idle | Phase::Closed(_)) {
             return Ok(None);
         }
+        self.draft(node)
+    }
+
+    // The next message of an active server.
+    fn draft(&self, node: u8) -> Result<Option<ToNode>, AllocError>
+        requires within { node ≤ self.now.nodes }
+        requires active { is_active self.now.phase ≡ true }
+        ensures { IfOk result (λ m.
+            m ≡ next_message (config_of self.now) (state_of self.now) node) }
+    {
         if !self.reported[node as usize] {
             return Ok(Some(ToNode::Open(self.session)));
         }
         match self.phase {
             Phase::Fetching => Ok(self.fetching_message(node)),
             Phase::Repairing | Phase::Running => {
-                if self.adopted[node as usize] {
+                if self.acks.adopted[node as usize] {
                     return self.append_message(node);
                 }
                 let m = self.repair_message(node)?;
@@ -93,8 +107,9 @@ impl Server {
 
     /// The next messages for all nodes, each with its node, in the order of the nodes.
     pub fn tick(&self) -> Result<Vec<(u8, ToNode)>, AllocError>
-        ensures { IfOk result (λ sent. sent.items ≡
-            next_messages (setting_of self.now) (state_of self.now) self.now.nodes) }
+        ensures value { IfOk result (λ sent. sent.items ≡
+            next_messages (config_of self.now) (state_of self.now) self.now.nodes) }
+        ensures valid { IfOk result (λ sent. AllByRecursion (λ s. IsValidToNode s.1) sent.items) }
     {
         let mut sent = Vec::new(self.alloc);
         for node in 1..self.nodes + 1 {

@@ -1,6 +1,5 @@
-use Rattle.std.proofs.Common.{◌≡◌, ◌+◌, ◌++◌, ◌∷◌, [], List, length, ◌∙◌, ap, subst, sym, arith, length-append, rules}
-use Rattle.tx_model.specs.declared.record.Record.{Record}
-use Rattle.tx_model.specs.Records.{IsRecord, RiseByOne}
+use Rattle.std.proofs.Common.{◌≡◌, ◌+◌, ◌++◌, ◌∷◌, [], length, ◌∙◌, ap, subst, sym, arith, length-append}
+use Rattle.tx_model.specs.Records.{RiseByOne}
 use Rattle.tx_model.proofs.Batches.{RiseByOne-append}
 use Rattle.segment_store.proofs.Indexing.{none_rise, rise_one}
 use Rattle.bench.proofs.segment.batch.Goals as goal

@@ -1,5 +1,5 @@
 use Rattle.std.proofs.Common.{◌≡◌, ◌+◌, drop}
-use Rattle.proto_model.specs.Clients.{have_ids_from}
+use Rattle.client_core.specs.Clients.{have_ids_from}
 use Rattle.client_core.proofs.heads.have_ids_from.Given as goal
 
 -- what is left decides

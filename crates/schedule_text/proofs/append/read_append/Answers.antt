@@ -1,6 +1,6 @@
 use Rattle.std.proofs.Common.{refl, sym, subst, arith}
 use Rattle.schedule_text.specs.Events.{keys_spelling, ops_word}
-use Rattle.schedule_text.specs.Words.{IsWithin}
+use Rattle.net_model.specs.Clusters.{IsWithin}
 use Rattle.schedule_text.proofs.AppendLemmas.{append_spelled, same_rest}
 use Rattle.schedule_text.proofs.append.read_append.Goals as goal
 
@@ -25,7 +25,7 @@ returns-in-Ok-clause-ok c =
     let values = c.in-Ok.ensures in
     let client = subst (λ most. IsWithin most c.in-Some.parts.client) c.from-clients.ensures is.client_in in
     let server = subst (λ most. IsWithin most c.in-Some.parts.server) c.from-servers.ensures is.server_in in
-    (append_spelled c.args.text.now _ _ _ _ _ _ _ _ is.text_is (omega (arith, is.client_in.fits)) (omega (arith, is.server_in.fits)) values.write_keys values.read_keys values.some_ops, (client, server))
+    (append_spelled c.args.text.now _ _ _ _ _ _ _ _ is.text_is (omega (arith, is.client_in.fits)) (omega (arith, is.server_in.fits)) values.write_keys values.read_keys values.some_ops, (client, server), tt)
 
 pub returns-in-Ok-clause-bad : goal.returns-in-Ok-clause-bad
 returns-in-Ok-clause-bad c =

@@ -1,4 +1,4 @@
-use Rattle.schedule_text.proofs.ScheduleLemmas.{lines_are_one}
+use Rattle.schedule_text.proofs.LineLaws.{lines_are_one}
 use Rattle.schedule_text.proofs.laws.lines_are_one.Goals as goal
 
 pub returns : goal.returns

@@ -2,7 +2,7 @@ use Rattle.std.proofs.Common.{◌≡◌, ℕ, List, ◌++◌, decimal, Option, S
 use Rattle.std.specs.Prelude.{IfSome}
 use Rattle.std.proofs.lemmas.Bool.Decides.{Decides-eqb}
 use Rattle.std.proofs.lemmas.Slice.Eq.{strip_prefix_is}
-use Rattle.schedule_text.specs.Words.{IsWithin}
+use Rattle.net_model.specs.Clusters.{IsWithin}
 use Rattle.schedule_text.proofs.parse.numbered.Goals as goal
 
 -- the number that follows the word

@@ -8,7 +8,7 @@ use Rattle.segment_store.proofs.appending.encode_all.Goals as goal
 
 pub loop-entry-init : goal.loop-entry-init
 unfolding starts_of
-loop-entry-init c = record { bytes = c.new-bytes.ensures.items; starts = λ room. c.in_ok-starts.ensures.items; count = ap length c.in_ok-starts.ensures.items }
+loop-entry-init c = record { bytes = c.in_ok-bytes.ensures.items; starts = λ room. c.in_ok-starts.ensures.items; count = ap length c.in_ok-starts.ensures.items }
 
 pub loop-entry-preserved : goal.loop-entry-preserved
 loop-entry-preserved c =

@@ -1,5 +1,5 @@
 use Rattle.std.proofs.Common.{arith, ap}
-use Rattle.schedule_text.specs.declared.event.Cluster.{Cluster}
+use Rattle.net_model.specs.declared.cluster.Cluster.{Cluster}
 use Rattle.schedule_text.proofs.EventLemmas.{same_spelling}
 use Rattle.waltz_cli.proofs.input.built_cluster.Goals as goal
 

@@ -1,18 +1,21 @@
-use Rattle.std.proofs.Common.{rules, ◌⊎◌, ◌≡◌}
-use Rattle.proto_model.specs.declared.refusal.BuildFault.TheVariants.{LastRequest, Memory}
-use Rattle.client_core.specs.Building.{draft_of, IsBuildable, IsRefusal}
-use Rattle.client_core.proofs.Refusals.{told_err, buildable_not}
+use Rattle.std.proofs.Common.{◌≡◌, ◌≢◌, ◌-◌, ◌^◌, None, Some, refl, sym, ◌∙◌, ap, rules, arith}
+use Rattle.proto_model.specs.declared.refusal.BuildFault.TheVariants.{Memory}
+use Rattle.client_core.specs.Building.{build_refusal}
+use Rattle.client_core.specs.States.{state_of}
+use Rattle.client_core.proofs.Told.{not_memory, request_left, no_form_refusal}
 use Rattle.client_core.proofs.client.Client.build.Goals as goal
 
-pub returns-in-Err-clause-exactly : goal.returns-in-Err-clause-exactly
-returns-in-Err-clause-exactly g c = told_err (draft_of c.args.self.now c.args.writes.items c.args.reads.items c.args.ops.now) c.in-Err.fault c.in-Err.ensures.cause
+pub returns-in-Ok-Some-clause-memory : goal.returns-in-Ok-Some-clause-memory
+returns-in-Ok-Some-clause-memory g c = λ e.
+    let same : c.in-Ok-Some.fault ≡ Memory = cc in
+    let is : Some c.in-Ok-Some.fault ≡ build_refusal (state_of g.A.App.state c.args.self.now) c.args.writes.items c.args.reads.items c.args.ops.now = search rules in
+    absurd (not_memory (state_of g.A.App.state c.args.self.now) c.args.writes.items c.args.reads.items c.args.ops.now (ap (λ f. Some f) (sym same) ∙ is))
 
-pub returns-then-self-clause-exactly : goal.returns-then-self-clause-exactly
-returns-then-self-clause-exactly g c =
-    let cause : (LastRequest ≡ Memory) ⊎ IsRefusal (draft_of c.args.self.now c.args.writes.items c.args.reads.items c.args.ops.now) LastRequest = search rules in
-    told_err (draft_of c.args.self.now c.args.writes.items c.args.reads.items c.args.ops.now) LastRequest cause
+pub returns-in_default-clause-memory : goal.returns-in_default-clause-memory
+returns-in_default-clause-memory g c = λ e.
+    no_form_refusal (state_of g.A.App.state c.args.self.now) c.args.writes.items c.args.reads.items c.args.ops.now (search rules)
 
-pub returns-clause-exactly : goal.returns-clause-exactly
-returns-clause-exactly g c = λ fault is.
-    let buildable : IsBuildable (draft_of c.args.self.now c.args.writes.items c.args.reads.items c.args.ops.now) = search rules in
-    absurd (buildable_not _ fault buildable is)
+pub overflow_add-self : goal.overflow_add-self
+overflow_add-self g c =
+    let left : c.self.inside.request ≢ 2 ^ 64 - 1 = rw (← c.self.view_is) at (request_left (state_of g.A.App.state c.args.self.now) c.args.writes.items c.args.reads.items c.args.ops.now (search rules)) in
+    omega (arith, left, c.self.ranges)

@@ -15,3 +15,10 @@ returns-clause-room g c =
     let last : c.len-last.result ≡ length log = search rules in
     let low : length log < 2 ^ 48 = log_within log c.self.invariant.rise in
     on_ok {P = c.len-last.result ≢ last_id} c.check_room.result (λ other. omega (arith, other)) c.check_room.ensures.room
+
+pub returns-then-mark-last-clause-valid : goal.returns-then-mark-last-clause-valid
+returns-then-mark-last-clause-valid g c =
+    let log = c.self.inside.log.items in
+    let last : c.len-last.result ≡ length log = search rules in
+    let low : length log < 2 ^ 48 = log_within log c.self.invariant.rise in
+    omega (arith, last, low)

@@ -1,11 +1,12 @@
 use Rattle.std.proofs.Common.{◌≡◌, ◌+◌, ◌<◌, ◌^◌, ◌++◌, List, ℕ, length, sym, ◌∙◌, ap, subst, arith}
 use Rattle.tx_model.proofs.Batches.{RiseByOne-All}
+use Rattle.record_frame.specs.Framing.{record_len}
 use Rattle.disk_model.specs.File.{IsImage}
 use Rattle.disk_model.specs.Frames.{joined}
 use Rattle.disk_model.specs.History.{EachMoment}
-use Rattle.segment_store.specs.Records.{records_in, frames_of, HasPrefixOf, EachImageHolds}
+use Rattle.segment_store.specs.Records.{records_of, records_in, frames_of, HasPrefixOf, EachLeftHolds}
 use Rattle.segment_store.specs.Index.{Index, count_of, starts_of, IsTidy, IsLoadable}
-use Rattle.segment_store.proofs.Loaded.{plain_reads}
+use Rattle.disk_model.proofs.Left.{each_left}
 use Rattle.segment_store.proofs.Appended.{writes, syncs, can_load, added, in_each, tidy_then}
 use Rattle.segment_store.proofs.segment.Segment.append.Goals as goal
 
@@ -21,7 +22,9 @@ returns-in_err-write_at-clause-any_moment g c = λ t.
     let end : c.self.inside.end ≡ s.end = ap (λ (i : Index). i.end) c.self.view_is in
     let tidy : IsTidy s (old.now q) = subst (λ (n : ℕ). IsTidy s (old.now n)) (sym same) (c.requires.tidy t) in
     let bytes : c.deref.result.now ≡ joined (frames_of c.args.records.now) = c.deref.ensures.value ∙ c.in_ok-frames.ensures.bytes in
-    subst (λ (n : ℕ). EachMoment n (EachImageHolds (HasPrefixOf (records_in (old.now n).reads) c.args.records.now)) old (g.D.Disk.history c.write_at.new.self)) same (writes q s c.self.inside.end end old tidy c.args.records.now c.requires.ids c.deref.result.now bytes (g.D.Disk.history c.write_at.new.self) (c.write_at.ensures.moments t))
+    subst (λ (n : ℕ). EachMoment n (EachLeftHolds g.D.Disk.plain (HasPrefixOf (records_in (old.now n).reads) c.args.records.now)) old (g.D.Disk.history c.write_at.new.self)) same
+    (each_left g.D.Disk.plain record_len (λ gs. HasPrefixOf (records_in (old.now q).reads) c.args.records.now (records_of gs)) q old (g.D.Disk.history c.write_at.new.self) (g.met.D.Disk.sound c.write_at.new.self t) (g.met.D.Disk.settles c.write_at.new.self t)
+    (writes q s c.self.inside.end end old tidy c.args.records.now c.requires.ids c.deref.result.now bytes (g.D.Disk.history c.write_at.new.self) (c.write_at.ensures.moments t)))
 
 pub returns-in_err-write_at-clause-loadable : goal.returns-in_err-write_at-clause-loadable
 returns-in_err-write_at-clause-loadable g c = λ t.
@@ -32,18 +35,9 @@ returns-in_err-write_at-clause-loadable g c = λ t.
     let end : c.self.inside.end ≡ s.end = ap (λ (i : Index). i.end) c.self.view_is in
     let tidy : IsTidy s (old.now q) = subst (λ (n : ℕ). IsTidy s (old.now n)) (sym same) (c.requires.tidy t) in
     let bytes : c.deref.result.now ≡ joined (frames_of c.args.records.now) = c.deref.ensures.value ∙ c.in_ok-frames.ensures.bytes in
-    subst (λ (n : ℕ). EachMoment n (EachImageHolds (IsLoadable s.first (count_of s))) old (g.D.Disk.history c.write_at.new.self)) same (can_load q s c.self.inside.end end old tidy c.args.records.now c.requires.ids c.deref.result.now bytes (g.D.Disk.history c.write_at.new.self) (writes q s c.self.inside.end end old tidy c.args.records.now c.requires.ids c.deref.result.now bytes (g.D.Disk.history c.write_at.new.self) (c.write_at.ensures.moments t)))
-
-pub returns-in_err-write_at-clause-plain : goal.returns-in_err-write_at-clause-plain
-returns-in_err-write_at-clause-plain g c = λ t p.
-    let s = c.args.self.now in
-    let old = g.D.Disk.history c.args.disk.now in
-    let q = c.self.inside.file in
-    let same : q ≡ s.file = ap (λ (i : Index). i.file) c.self.view_is in
-    let end : c.self.inside.end ≡ s.end = ap (λ (i : Index). i.end) c.self.view_is in
-    let tidy : IsTidy s (old.now q) = subst (λ (n : ℕ). IsTidy s (old.now n)) (sym same) (c.requires.tidy t) in
-    let bytes : c.deref.result.now ≡ joined (frames_of c.args.records.now) = c.deref.ensures.value ∙ c.in_ok-frames.ensures.bytes in
-    subst (λ (n : ℕ). EachMoment n ((λ f. HasPrefixOf (records_in (old.now n).reads) c.args.records.now (records_in f.reads))) old (g.D.Disk.history c.write_at.new.self)) same (plain_reads q (HasPrefixOf (records_in (old.now q).reads) c.args.records.now) old (g.D.Disk.history c.write_at.new.self) (writes q s c.self.inside.end end old tidy c.args.records.now c.requires.ids c.deref.result.now bytes (g.D.Disk.history c.write_at.new.self) (c.write_at.ensures.moments t)) (g.met.D.Disk.settles c.write_at.new.self t p))
+    subst (λ (n : ℕ). EachMoment n (EachLeftHolds g.D.Disk.plain (IsLoadable s.first (count_of s))) old (g.D.Disk.history c.write_at.new.self)) same
+    (each_left g.D.Disk.plain record_len (λ gs. IsLoadable s.first (count_of s) (records_of gs)) q old (g.D.Disk.history c.write_at.new.self) (g.met.D.Disk.sound c.write_at.new.self t) (g.met.D.Disk.settles c.write_at.new.self t)
+    (can_load q s c.self.inside.end end old tidy c.args.records.now c.requires.ids c.deref.result.now bytes (g.D.Disk.history c.write_at.new.self) (writes q s c.self.inside.end end old tidy c.args.records.now c.requires.ids c.deref.result.now bytes (g.D.Disk.history c.write_at.new.self) (c.write_at.ensures.moments t))))
 
 pub returns-in_err-sync-clause-any_moment : goal.returns-in_err-sync-clause-any_moment
 returns-in_err-sync-clause-any_moment g c = λ t.
@@ -54,7 +48,9 @@ returns-in_err-sync-clause-any_moment g c = λ t.
     let end : c.self.inside.end ≡ s.end = ap (λ (i : Index). i.end) c.self.view_is in
     let tidy : IsTidy s (old.now q) = subst (λ (n : ℕ). IsTidy s (old.now n)) (sym same) (c.requires.tidy t) in
     let bytes : c.deref.result.now ≡ joined (frames_of c.args.records.now) = c.deref.ensures.value ∙ c.in_ok-frames.ensures.bytes in
-    subst (λ (n : ℕ). EachMoment n (EachImageHolds (HasPrefixOf (records_in (old.now n).reads) c.args.records.now)) old (g.D.Disk.history c.sync.new.self)) same (syncs q s c.self.inside.end end old tidy c.args.records.now c.requires.ids c.deref.result.now bytes (g.D.Disk.history c.write_at.new.self) (g.D.Disk.history c.sync.new.self) (c.write_at.ensures.moments t) (c.in_ok-write_at.ensures.reads t) (c.sync.ensures.moments t))
+    subst (λ (n : ℕ). EachMoment n (EachLeftHolds g.D.Disk.plain (HasPrefixOf (records_in (old.now n).reads) c.args.records.now)) old (g.D.Disk.history c.sync.new.self)) same
+    (each_left g.D.Disk.plain record_len (λ gs. HasPrefixOf (records_in (old.now q).reads) c.args.records.now (records_of gs)) q old (g.D.Disk.history c.sync.new.self) (g.met.D.Disk.sound c.sync.new.self t) (g.met.D.Disk.settles c.sync.new.self t)
+    (syncs q s c.self.inside.end end old tidy c.args.records.now c.requires.ids c.deref.result.now bytes (g.D.Disk.history c.write_at.new.self) (g.D.Disk.history c.sync.new.self) (c.write_at.ensures.moments t) (c.in_ok-write_at.ensures.reads t) (c.sync.ensures.moments t)))
 
 pub returns-in_err-sync-clause-loadable : goal.returns-in_err-sync-clause-loadable
 returns-in_err-sync-clause-loadable g c = λ t.
@@ -65,18 +61,9 @@ returns-in_err-sync-clause-loadable g c = λ t.
     let end : c.self.inside.end ≡ s.end = ap (λ (i : Index). i.end) c.self.view_is in
     let tidy : IsTidy s (old.now q) = subst (λ (n : ℕ). IsTidy s (old.now n)) (sym same) (c.requires.tidy t) in
     let bytes : c.deref.result.now ≡ joined (frames_of c.args.records.now) = c.deref.ensures.value ∙ c.in_ok-frames.ensures.bytes in
-    subst (λ (n : ℕ). EachMoment n (EachImageHolds (IsLoadable s.first (count_of s))) old (g.D.Disk.history c.sync.new.self)) same (can_load q s c.self.inside.end end old tidy c.args.records.now c.requires.ids c.deref.result.now bytes (g.D.Disk.history c.sync.new.self) (syncs q s c.self.inside.end end old tidy c.args.records.now c.requires.ids c.deref.result.now bytes (g.D.Disk.history c.write_at.new.self) (g.D.Disk.history c.sync.new.self) (c.write_at.ensures.moments t) (c.in_ok-write_at.ensures.reads t) (c.sync.ensures.moments t)))
-
-pub returns-in_err-sync-clause-plain : goal.returns-in_err-sync-clause-plain
-returns-in_err-sync-clause-plain g c = λ t p.
-    let s = c.args.self.now in
-    let old = g.D.Disk.history c.args.disk.now in
-    let q = c.self.inside.file in
-    let same : q ≡ s.file = ap (λ (i : Index). i.file) c.self.view_is in
-    let end : c.self.inside.end ≡ s.end = ap (λ (i : Index). i.end) c.self.view_is in
-    let tidy : IsTidy s (old.now q) = subst (λ (n : ℕ). IsTidy s (old.now n)) (sym same) (c.requires.tidy t) in
-    let bytes : c.deref.result.now ≡ joined (frames_of c.args.records.now) = c.deref.ensures.value ∙ c.in_ok-frames.ensures.bytes in
-    subst (λ (n : ℕ). EachMoment n ((λ f. HasPrefixOf (records_in (old.now n).reads) c.args.records.now (records_in f.reads))) old (g.D.Disk.history c.sync.new.self)) same (plain_reads q (HasPrefixOf (records_in (old.now q).reads) c.args.records.now) old (g.D.Disk.history c.sync.new.self) (syncs q s c.self.inside.end end old tidy c.args.records.now c.requires.ids c.deref.result.now bytes (g.D.Disk.history c.write_at.new.self) (g.D.Disk.history c.sync.new.self) (c.write_at.ensures.moments t) (c.in_ok-write_at.ensures.reads t) (c.sync.ensures.moments t)) (g.met.D.Disk.settles c.sync.new.self t p))
+    subst (λ (n : ℕ). EachMoment n (EachLeftHolds g.D.Disk.plain (IsLoadable s.first (count_of s))) old (g.D.Disk.history c.sync.new.self)) same
+    (each_left g.D.Disk.plain record_len (λ gs. IsLoadable s.first (count_of s) (records_of gs)) q old (g.D.Disk.history c.sync.new.self) (g.met.D.Disk.sound c.sync.new.self t) (g.met.D.Disk.settles c.sync.new.self t)
+    (can_load q s c.self.inside.end end old tidy c.args.records.now c.requires.ids c.deref.result.now bytes (g.D.Disk.history c.sync.new.self) (syncs q s c.self.inside.end end old tidy c.args.records.now c.requires.ids c.deref.result.now bytes (g.D.Disk.history c.write_at.new.self) (g.D.Disk.history c.sync.new.self) (c.write_at.ensures.moments t) (c.in_ok-write_at.ensures.reads t) (c.sync.ensures.moments t))))
 
 pub returns-clause-any_moment : goal.returns-clause-any_moment
 returns-clause-any_moment g c = λ t.
@@ -87,7 +74,9 @@ returns-clause-any_moment g c = λ t.
     let end : c.self.inside.end ≡ s.end = ap (λ (i : Index). i.end) c.self.view_is in
     let tidy : IsTidy s (old.now q) = subst (λ (n : ℕ). IsTidy s (old.now n)) (sym same) (c.requires.tidy t) in
     let bytes : c.deref.result.now ≡ joined (frames_of c.args.records.now) = c.deref.ensures.value ∙ c.in_ok-frames.ensures.bytes in
-    subst (λ (n : ℕ). EachMoment n (EachImageHolds (HasPrefixOf (records_in (old.now n).reads) c.args.records.now)) old (g.D.Disk.history c.sync.new.self)) same (syncs q s c.self.inside.end end old tidy c.args.records.now c.requires.ids c.deref.result.now bytes (g.D.Disk.history c.write_at.new.self) (g.D.Disk.history c.sync.new.self) (c.write_at.ensures.moments t) (c.in_ok-write_at.ensures.reads t) (c.sync.ensures.moments t))
+    subst (λ (n : ℕ). EachMoment n (EachLeftHolds g.D.Disk.plain (HasPrefixOf (records_in (old.now n).reads) c.args.records.now)) old (g.D.Disk.history c.sync.new.self)) same
+    (each_left g.D.Disk.plain record_len (λ gs. HasPrefixOf (records_in (old.now q).reads) c.args.records.now (records_of gs)) q old (g.D.Disk.history c.sync.new.self) (g.met.D.Disk.sound c.sync.new.self t) (g.met.D.Disk.settles c.sync.new.self t)
+    (syncs q s c.self.inside.end end old tidy c.args.records.now c.requires.ids c.deref.result.now bytes (g.D.Disk.history c.write_at.new.self) (g.D.Disk.history c.sync.new.self) (c.write_at.ensures.moments t) (c.in_ok-write_at.ensures.reads t) (c.sync.ensures.moments t)))
 
 pub returns-clause-loadable : goal.returns-clause-loadable
 returns-clause-loadable g c = λ t.
@@ -98,18 +87,9 @@ returns-clause-loadable g c = λ t.
     let end : c.self.inside.end ≡ s.end = ap (λ (i : Index). i.end) c.self.view_is in
     let tidy : IsTidy s (old.now q) = subst (λ (n : ℕ). IsTidy s (old.now n)) (sym same) (c.requires.tidy t) in
     let bytes : c.deref.result.now ≡ joined (frames_of c.args.records.now) = c.deref.ensures.value ∙ c.in_ok-frames.ensures.bytes in
-    subst (λ (n : ℕ). EachMoment n (EachImageHolds (IsLoadable s.first (count_of s))) old (g.D.Disk.history c.sync.new.self)) same (can_load q s c.self.inside.end end old tidy c.args.records.now c.requires.ids c.deref.result.now bytes (g.D.Disk.history c.sync.new.self) (syncs q s c.self.inside.end end old tidy c.args.records.now c.requires.ids c.deref.result.now bytes (g.D.Disk.history c.write_at.new.self) (g.D.Disk.history c.sync.new.self) (c.write_at.ensures.moments t) (c.in_ok-write_at.ensures.reads t) (c.sync.ensures.moments t)))
-
-pub returns-clause-plain : goal.returns-clause-plain
-returns-clause-plain g c = λ t p.
-    let s = c.args.self.now in
-    let old = g.D.Disk.history c.args.disk.now in
-    let q = c.self.inside.file in
-    let same : q ≡ s.file = ap (λ (i : Index). i.file) c.self.view_is in
-    let end : c.self.inside.end ≡ s.end = ap (λ (i : Index). i.end) c.self.view_is in
-    let tidy : IsTidy s (old.now q) = subst (λ (n : ℕ). IsTidy s (old.now n)) (sym same) (c.requires.tidy t) in
-    let bytes : c.deref.result.now ≡ joined (frames_of c.args.records.now) = c.deref.ensures.value ∙ c.in_ok-frames.ensures.bytes in
-    subst (λ (n : ℕ). EachMoment n ((λ f. HasPrefixOf (records_in (old.now n).reads) c.args.records.now (records_in f.reads))) old (g.D.Disk.history c.sync.new.self)) same (plain_reads q (HasPrefixOf (records_in (old.now q).reads) c.args.records.now) old (g.D.Disk.history c.sync.new.self) (syncs q s c.self.inside.end end old tidy c.args.records.now c.requires.ids c.deref.result.now bytes (g.D.Disk.history c.write_at.new.self) (g.D.Disk.history c.sync.new.self) (c.write_at.ensures.moments t) (c.in_ok-write_at.ensures.reads t) (c.sync.ensures.moments t)) (g.met.D.Disk.settles c.sync.new.self t p))
+    subst (λ (n : ℕ). EachMoment n (EachLeftHolds g.D.Disk.plain (IsLoadable s.first (count_of s))) old (g.D.Disk.history c.sync.new.self)) same
+    (each_left g.D.Disk.plain record_len (λ gs. IsLoadable s.first (count_of s) (records_of gs)) q old (g.D.Disk.history c.sync.new.self) (g.met.D.Disk.sound c.sync.new.self t) (g.met.D.Disk.settles c.sync.new.self t)
+    (can_load q s c.self.inside.end end old tidy c.args.records.now c.requires.ids c.deref.result.now bytes (g.D.Disk.history c.sync.new.self) (syncs q s c.self.inside.end end old tidy c.args.records.now c.requires.ids c.deref.result.now bytes (g.D.Disk.history c.write_at.new.self) (g.D.Disk.history c.sync.new.self) (c.write_at.ensures.moments t) (c.in_ok-write_at.ensures.reads t) (c.sync.ensures.moments t))))
 
 pub returns-clause-every_image : goal.returns-clause-every_image
 returns-clause-every_image g c = λ t.

@@ -1,6 +1,7 @@
 use Rattle.std.proofs.Common.{◌≡◌, ◌+◌, ◌-◌, ℕ, drop, sym, ◌∙◌, ap, arith}
-use Rattle.segment_store.proofs.Indexing.{moved, further, damaged-as}
-use Rattle.segment_store.proofs.Answers.{told_by_try}
+use Rattle.disk_model.proofs.Stretches.{moved}
+use Rattle.segment_store.proofs.Indexing.{further, damaged-as}
+use Rattle.disk_model.proofs.Told.{told_by_try}
 use Rattle.segment_store.proofs.segment.Segment.note_all.Goals as goal
 
 pub returns-in_err-note-in-Ok-clause-damaged : goal.returns-in_err-note-in-Ok-clause-damaged

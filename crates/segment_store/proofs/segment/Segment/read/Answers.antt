@@ -2,7 +2,7 @@ use Rattle.std.proofs.Common.{◌≡◌, ◌<◌, ℕ, sym, ◌∙◌, ap, subst
 use Rattle.segment_store.specs.Records.{records_in}
 use Rattle.segment_store.specs.Index.{Index, count_of, IsWholeIndexOf, IsDamagedAt, IsLoadable}
 use Rattle.segment_store.proofs.Indexing.{damaged-as}
-use Rattle.segment_store.proofs.Answers.{told_by_try}
+use Rattle.disk_model.proofs.Told.{told_by_try}
 use Rattle.segment_store.proofs.Loaded.{loadable, damaged-short, not_both}
 use Rattle.segment_store.proofs.segment.Segment.read.Goals as goal
 

@@ -1,6 +1,8 @@
 use Rattle.std.proofs.Common.{◌≡◌, ℕ, length, refl, sym, ◌∙◌, ap, arith}
 use Rattle.segment_store.specs.Index.{Index}
-use Rattle.segment_store.proofs.Stretches.{not_read}
+use Rattle.record_frame.specs.Framing.{record_len}
+use Rattle.disk_model.proofs.Stretches.{not_read}
+use Rattle.segment_store.proofs.Indexing.{framing}
 use Rattle.segment_store.proofs.segment.Segment.read_all.Goals as goal
 
 pub pieces-init : goal.pieces-init
@@ -21,8 +23,8 @@ pieces-init g c =
       };
       read = λ told.
           let len : c.in_ok-len.len ≡ length ((g.D.Disk.history c.args.disk.now).now s.file).reads = c.in_ok-len.ensures.len told ∙ ap (λ (f : ℕ). length ((g.D.Disk.history c.args.disk.now).now f).reads) (ap (λ (i : Index). i.file) c.self.view_is) in
-          not_read s t ((g.D.Disk.history c.args.disk.now).now s.file).reads (c.requires.index _) next c.in_ok-stretch.ensures.none (c.in_ok-stretch.ensures.place.2 ∙ len);
+          record { index = c.requires.index _; read = not_read record_len framing s.end t ((g.D.Disk.history c.args.disk.now).now s.file).reads next c.in_ok-stretch.ensures.none (c.in_ok-stretch.ensures.place.2 ∙ len) };
       history = λ told. c.len.ensures.same told;
-      later = c.len.ensures.cause.later;
+      none = c.in_ok-len.ensures.cause.none;
       keeps = record { reliable = c.len.ensures.keeps.reliable; unfailing = λ u. ((c.len.ensures.keeps.unfailing u).0, λ no_fault. no_fault) };
     }

@@ -10,7 +10,7 @@ invariant-pieces g l = record {
   aligned : IsAligned l.self l.stretch;
   read : g.D.Disk.tells → IsReadOf l.self l.stretch ((g.D.Disk.history l.fn.disk).now l.fn.self.file).reads;
   history : g.D.Disk.tells → g.D.Disk.history l.disk ≡ g.D.Disk.history l.fn.disk;
-  later : g.D.Disk.faults l.fn.disk ≤ g.D.Disk.faults l.disk;
+  none : g.D.Disk.faults l.disk ≡ g.D.Disk.faults l.fn.disk;
   keeps : KeepsWorking g.D.Disk.reliable g.D.Disk.unfailing l.fn.disk l.disk ⊥;
 }
 

@@ -1,7 +1,8 @@
 use Rattle.std.proofs.Common.{◌≡◌, ◌+◌, ◌-◌, ◌++◌, List, ℕ, length, take, drop, sym, ◌∙◌, ap, arith}
 use Rattle.segment_store.specs.Index.{Index}
-use Rattle.segment_store.proofs.Stretches.{stands, read_further, read_wholly}
-use Rattle.segment_store.proofs.Answers.{told_by_try}
+use Rattle.record_frame.specs.Framing.{record_len}
+use Rattle.disk_model.proofs.Stretches.{stands, read_further, read_wholly}
+use Rattle.disk_model.proofs.Told.{told_by_try}
 use Rattle.segment_store.proofs.segment.Segment.read_on.Goals as goal
 
 pub note_all-requires : goal.note_all-requires
@@ -14,7 +15,7 @@ returns-in_err-more-clause-damaged g c =
       λ t count read.
           let all = ((g.D.Disk.history c.args.disk.now).now c.args.self.now.file).reads in
           let bytes : c.deref.result.now ≡ c.args.stretch.now.bytes.items ++ take c.in_ok-refill.field-0 (drop c.args.stretch.now.next all) = c.deref.ensures.value ∙ c.in_ok-refill.ensures.bytes t ∙ ap (λ (f : ℕ). c.args.stretch.now.bytes.items ++ take c.in_ok-refill.field-0 (drop c.args.stretch.now.next ((g.D.Disk.history c.args.disk.now).now f).reads)) c.requires.file in
-          is.1 all (drop (c.args.stretch.now.next + c.in_ok-refill.field-0) all) count (stands c.args.self.now c.args.self.now c.args.stretch.now all c.deref.result.now c.in_ok-refill.field-0 read bytes) read.index,
+          is.1 all (drop (c.args.stretch.now.next + c.in_ok-refill.field-0) all) count (stands record_len c.args.self.now.end c.args.self.now.end c.args.stretch.now all c.deref.result.now c.in_ok-refill.field-0 read.read bytes) read.index,
     ))
 
 pub returns-clause-read : goal.returns-clause-read
@@ -23,13 +24,15 @@ returns-clause-read g c = λ yes t read.
     let s = c.args.self.now in
     let s' = c.note_all.new.self in
     let bytes : c.deref.result.now ≡ c.args.stretch.now.bytes.items ++ take c.in_ok-refill.field-0 (drop c.args.stretch.now.next all) = c.deref.ensures.value ∙ c.in_ok-refill.ensures.bytes t ∙ ap (λ (f : ℕ). c.args.stretch.now.bytes.items ++ take c.in_ok-refill.field-0 (drop c.args.stretch.now.next ((g.D.Disk.history c.args.disk.now).now f).reads)) c.requires.file in
-    let index = c.in_ok-more.ensures.index all (drop (c.args.stretch.now.next + c.in_ok-refill.field-0) all) (stands s s' c.args.stretch.now all c.deref.result.now c.in_ok-refill.field-0 read bytes) read.index in
+    let index = c.in_ok-more.ensures.index all (drop (c.args.stretch.now.next + c.in_ok-refill.field-0) all) (stands record_len s.end s'.end c.args.stretch.now all c.deref.result.now c.in_ok-refill.field-0 read.read bytes) read.index in
     let used : c.self-2.inside.end - c.self.inside.end ≡ s'.end - s.end = ap (λ (i : Index). i.end - c.self.inside.end) c.self-2.view_is ∙ ap (λ (i : Index). s'.end - i.end) c.self.view_is in
     let rest : c.forget.new.self.bytes.items ≡ drop (s'.end - s.end) c.deref.result.now = c.forget.ensures.bytes ∙ ap (λ (k : ℕ). drop k c.refill.new.self.bytes.items) used ∙ ap (λ (l : List ℕ). drop (s'.end - s.end) l) (sym c.deref.ensures.value) in
     let next : c.forget.new.self.next ≡ c.args.stretch.now.next + c.in_ok-refill.field-0 = c.forget.ensures.same.1 ∙ c.in_ok-refill.ensures.read.0 in
     let end : c.forget.new.self.end ≡ c.args.stretch.now.end = c.forget.ensures.same.2 ∙ c.refill.ensures.same.1 in
-    read_further s s' c.args.stretch.now all c.deref.result.now c.in_ok-refill.field-0 read bytes c.in_ok-more.ensures.used.0 c.in_ok-more.ensures.used.1 c.forget.new.self
-    rest next end index c.in_ok-more.ensures.none
+    record {
+      index = index;
+      read = read_further record_len s.end s'.end c.args.stretch.now all c.deref.result.now c.in_ok-refill.field-0 read.read bytes c.in_ok-more.ensures.used.0 c.in_ok-more.ensures.used.1 c.forget.new.self rest next end c.in_ok-more.ensures.none;
+    }
 
 pub returns-clause-last : goal.returns-clause-last
 returns-clause-last g c = λ not t read.
@@ -38,5 +41,8 @@ returns-clause-last g c = λ not t read.
     let s' = c.note_all.new.self in
     let bytes : c.deref.result.now ≡ c.args.stretch.now.bytes.items ++ take c.in_ok-refill.field-0 (drop c.args.stretch.now.next all) = c.deref.ensures.value ∙ c.in_ok-refill.ensures.bytes t ∙ ap (λ (f : ℕ). c.args.stretch.now.bytes.items ++ take c.in_ok-refill.field-0 (drop c.args.stretch.now.next ((g.D.Disk.history c.args.disk.now).now f).reads)) c.requires.file in
     let more = drop (c.args.stretch.now.next + c.in_ok-refill.field-0) all in
-    let index = c.in_ok-more.ensures.index all more (stands s s' c.args.stretch.now all c.deref.result.now c.in_ok-refill.field-0 read bytes) read.index in
-    read_wholly s s' c.args.stretch.now all c.deref.result.now c.in_ok-refill.field-0 read bytes c.in_ok-more.ensures.used.0 c.in_ok-more.ensures.used.1 index (c.in_ok-more.ensures.last not more)
+    let index = c.in_ok-more.ensures.index all more (stands record_len s.end s'.end c.args.stretch.now all c.deref.result.now c.in_ok-refill.field-0 read.read bytes) read.index in
+    record {
+      index = index;
+      none = read_wholly record_len s.end s'.end c.args.stretch.now all c.deref.result.now c.in_ok-refill.field-0 read.read bytes c.in_ok-more.ensures.used.0 c.in_ok-more.ensures.used.1 (c.in_ok-more.ensures.last not more);
+    }

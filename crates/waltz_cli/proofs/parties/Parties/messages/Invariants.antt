@@ -1,5 +1,5 @@
 use Rattle.std.proofs.Common.{◌≡◌, map}
-use Rattle.schedule_text.specs.Worlds.{envelope_from}
+use Rattle.world_law.specs.Steps.{envelope_from}
 use Rattle.waltz_cli.proofs.parties.Parties.messages.Given as goal
 
 abbrev pub invariant-loop-node : goal.invariant-loop-node

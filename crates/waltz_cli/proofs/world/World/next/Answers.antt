@@ -1,14 +1,14 @@
 use Rattle.std.proofs.Common.{◌≡◌, ◌∙◌, List, sym, subst, Some, slice_get}
 use Rattle.std.proofs.lemmas.List.{append-nil}
-use Rattle.schedule_text.specs.declared.mail.Envelope.{Envelope}
+use Rattle.net_model.specs.declared.mail.Envelope.{Envelope}
 use Rattle.waltz_cli.specs.declared.parties.Got.TheVariants as got
 use Rattle.waltz_cli.specs.Parties.{columns_of, Delivers}
-use Rattle.waltz_cli.proofs.Showing.{found_at, test_at, test_more, next_shown, next_gives}
+use Rattle.waltz_cli.proofs.Showing.{found_at, fit_at, fit_more, next_shown, next_gives}
 use Rattle.waltz_cli.proofs.world.World.next.Goals as goal
 
 pub deliver-requires : goal.deliver-requires
 deliver-requires c =
-    test_at c.args.self.now.sent.items c.args.self.now.delivered c.in-Some.envelope.now c.requires
+    fit_at c.args.self.now.sent.items c.args.self.now.delivered c.in-Some.envelope.now c.requires
     (found_at _ _ _ _ c.deref.ensures.value c.in-Some.ensures.lookup.3.0 c.in-Some.ensures.lookup.1)
 
 pub returns-in_ok-outcome-in-Made : goal.returns-in_ok-outcome-in-Made
@@ -22,7 +22,7 @@ returns-in_ok-outcome-in-Made c =
       gives = λ w shows. c.in_ok-outcome-in-Made.ensures.outcome ∙ next_gives _ _ _ _ s _ w e (got.Made c.in-Made.made) found delivers shows;
       leads = λ w shows. next_shown _ _ _ _ s _ _ w e (got.Made c.in-Made.made) found delivers c.in_ok-outcome-in-Made.ensures.sent shows;
       cluster = delivers.cluster;
-      placed = λ old. test_more s _ c.in-Made.made.items c.in_ok-outcome-in-Made.ensures.sent old delivers.placed;
+      fit = λ old. fit_more s _ c.in-Made.made.items c.in_ok-outcome-in-Made.ensures.sent old delivers.fit;
     }
 
 pub returns-in-Client : goal.returns-in-Client
@@ -36,5 +36,5 @@ returns-in-Client c =
       gives = λ w shows. next_gives _ _ _ _ s _ w e (got.Client c.in-Client.client c.in-Client.mark) found delivers shows;
       leads = λ w shows. next_shown _ _ _ _ s s _ w e (got.Client c.in-Client.client c.in-Client.mark) found delivers (sym (append-nil s)) shows;
       cluster = delivers.cluster;
-      placed = λ old. old;
+      fit = λ old. old;
     }

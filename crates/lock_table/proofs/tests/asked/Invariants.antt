@@ -1,5 +1,0 @@
-use Rattle.lock_table.proofs.tests.asked.Given as goal
-
--- the ledger of the blank
-abbrev pub ghosts-asked_with : goal.ghosts-asked_with
-ghosts-asked_with a = record { name = a.blank.name; parts = a.blank.parts }

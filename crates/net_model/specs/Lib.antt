@@ -1,0 +1,4 @@
+pub mod Clusters
+pub mod Events
+pub mod Briefs
+pub mod Pools

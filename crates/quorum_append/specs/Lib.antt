@@ -1,0 +1,2 @@
+pub mod Acknowledgements
+pub mod Kept

@@ -1,0 +1,5 @@
+pub mod Choosing
+pub mod Parts
+pub mod Counts
+pub mod Knowing
+pub mod Recoveries

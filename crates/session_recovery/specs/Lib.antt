@@ -1,0 +1,4 @@
+pub mod Known
+pub mod KnownBy
+pub mod Recovering
+pub mod RecoveredBy

@@ -1,0 +1,10 @@
+//! A session's recovery: which node's log goes on, and how the nodes come to have it.
+#![tactic(auto)]
+
+mod batches;
+mod choice;
+mod nodes;
+mod recovery;
+
+pub use nodes::Nodes;
+pub use recovery::Recovery;

@@ -1,0 +1,4 @@
+pub mod Registers
+pub mod Telling
+pub mod Values
+pub mod Disks

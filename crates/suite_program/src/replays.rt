@@ -1,0 +1,127 @@
+ghost use Rattle.std.specs.Prelude.{◌≤◌};
+
+use io_core::{MemSink, MemSource};
+use std::alloc::Global;
+use std::test::*;
+use waltz_cli::run;
+
+// Whether a replay of a schedule that is read in pieces, where calls of these numbers fail, ends with this status and
+// prints this text.
+fn replays(
+    alloc: Global,
+    schedule: &str,
+    piece: usize,
+    read_fails: &[u64],
+    write_fails: &[u64],
+    want: (u8, &str),
+) -> Result<bool, Fail>
+    requires { 1 ≤ piece }
+{
+    let mut words = Vec::new(alloc);
+    words.push(String::from_str(alloc, "replay")?)?;
+    let bytes = schedule.as_bytes().to_vec(alloc)?;
+    let mut source = MemSource::new(bytes, piece, read_fails.to_vec(alloc)?);
+    let mut sink = MemSink::new(alloc, write_fails.to_vec(alloc)?);
+    let status = run(alloc, &words, &mut source, &mut sink);
+    Ok(status == want.0 && sink.bytes() == want.1.as_bytes())
+}
+
+// Whether these words print the usage.
+fn are_refused(alloc: Global, words: &[&str]) -> Result<bool, Fail> {
+    let mut line = Vec::new(alloc);
+    for word in words {
+        line.push(String::from_str(alloc, word)?)?;
+    }
+    let mut source = MemSource::new(Vec::new(alloc), 512, Vec::new(alloc));
+    let mut sink = MemSink::new(alloc, Vec::new(alloc));
+    let status = run(alloc, &line, &mut source, &mut sink);
+    Ok(status == 2 && sink.bytes() == b"! usage\n".as_slice())
+}
+
+#[test]
+fn pieces_do_not_matter(rt: HostRuntime) -> Result<(), Fail> {
+    let schedule = "cluster 1 1 1 2 64\nread 1\ncas 1\nnext\nread 1";
+    let want = (0, "read 0\nwon 1\nnone\nread 1\n");
+    for piece in 1..50 {
+        assert!(rt; replays(rt.alloc(), schedule, piece, &[], &[], want)?);
+    }
+    Ok(())
+}
+
+#[test]
+fn lines_that_no_schedule_has(rt: HostRuntime) -> Result<(), Fail> {
+    for schedule in [
+        "\n",
+        "cluster 1 1 1 0 64\n",
+        "cluster 1 1 1 9 64\n",
+        "cluster 1 1 1 2 4097\n",
+        "cluster 1 1 1 2\n",
+        "cluster 1 1 1 2 64 \n",
+        "cluster 1 1 1 02 64\n",
+        "Cluster 1 1 1 2 64\n",
+    ] {
+        let want = (3, "! line 1 unbuilt\n");
+        assert!(rt; replays(rt.alloc(), schedule, 512, &[], &[], want)?);
+    }
+    for line in [
+        "read 0",
+        "read 2",
+        "read 01",
+        "read  1",
+        "read 1 ",
+        "read 18446744073709551617",
+        "next 1",
+        "Next",
+        "",
+        "tick 2",
+        "append 1 1 a a -",
+        "append 1 1 a,a - -",
+        "append 1 1 a - set b 5",
+        "append 1 1 a - set a 05",
+        "append 1 1 a - set a 1000000001",
+        "append 1 1 a - set a 5;",
+        "append 1 1 a - put a 5",
+        "append 1 1 a, - -",
+        "append 1 1 a -",
+    ] {
+        let mut schedule = String::from_str(rt.alloc(), "cluster 1 1 1 2 64\nnext\n")?;
+        schedule.push_str(line)?;
+        schedule.push_str("\nnext\n")?;
+        let want = (3, "none\n! line 3 unbuilt\n");
+        assert!(rt; replays(rt.alloc(), &schedule, 512, &[], &[], want)?);
+    }
+    Ok(())
+}
+
+// The calls that fail are the source's and the sink's.
+#[test]
+fn a_fault_ends_with_its_status_and_what_was_read_whole(rt: HostRuntime) -> Result<(), Fail> {
+    let schedule = "cluster 1 1 1 2 64\nread 1\nread 1\n";
+    let none: &[u64] = &[];
+    let one: &[u64] = &[1];
+    let two: &[u64] = &[2];
+    for (text, piece, reads, writes, want) in [
+        (schedule, 27, one, none, (10, "! read\n")),
+        (schedule, 27, two, none, (10, "read 0\n! read\n")),
+        (schedule, 27, two, two, (11, "read 0\n")),
+        (schedule, 26, none, two, (11, "read 0\n")),
+        (schedule, 512, none, one, (11, "")),
+        ("x", 26, none, one, (11, "")),
+        ("x", 26, two, none, (10, "! read\n")),
+    ] {
+        assert!(rt; replays(rt.alloc(), text, piece, reads, writes, want)?);
+    }
+    Ok(())
+}
+
+#[test]
+fn other_words_are_usage(rt: HostRuntime) -> Result<(), Fail> {
+    let none: &[&str] = &[];
+    let twice: &[&str] = &["replay", "x"];
+    let other: &[&str] = &["Replay"];
+    let empty: &[&str] = &[""];
+    for words in [none, twice, other, empty] {
+        assert!(rt; are_refused(rt.alloc(), words)?);
+    }
+    Ok(())
+}

@@ -1,0 +1,13 @@
+//! Tests of the lock table, recovery, the partition server, the application and the client, over what their crates make public.
+#![tactic(auto)]
+
+#[cfg(test)]
+mod application;
+#[cfg(test)]
+mod client;
+#[cfg(test)]
+mod locks;
+#[cfg(test)]
+mod recovery;
+#[cfg(test)]
+mod server;

@@ -1,0 +1,11 @@
+pub mod Worlds
+pub mod Deliveries
+pub mod Steps
+pub mod OneLog
+pub mod Outcomes
+pub mod Runs
+pub mod Safety
+pub mod Soundness
+pub mod Promises
+pub mod Gains
+pub mod Laws
