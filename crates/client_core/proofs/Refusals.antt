@@ -3,7 +3,7 @@ use Rattle.std.proofs.Common.{◌≡◌, ℕ, ◌+◌, ◌≤◌, ◌<◌, List,
 use Rattle.kv_app.specs.Places.{IsBadAt}
 use Rattle.proto_model.specs.declared.refusal.BuildFault.{BuildFault}
 use Rattle.proto_model.specs.declared.refusal.BuildFault.TheVariants.{BadOps, TooManyLocks, DoubleLock, PayloadTooLong, Unlocked, LastRequest, Memory}
-use Rattle.client_core.specs.Building.{Draft, named_keys, IsLeastUnlocked, HasOps, HasFewLocks, HasPayload, IsLocked, IsBuildable, IsRefusal}
+use Rattle.client_core.specs.Building.{Draft, named_keys, IsLeastUnlocked, HasOps, HasFewLocks, HasPayload, HasLockedKeys, IsBuildable, IsRefusal}
 use Rattle.client_core.proofs.Orders.{same_unless_before}
 
 -- ---- a place and a key are told once
@@ -29,7 +29,7 @@ no_few d many few = let le = few.few in absurd (omega arith)
 no_names : (d : Draft) → 65536 < length d.ops → HasPayload d → ⊥
 no_names d long payload = let le = payload.short in absurd (omega arith)
 
-no_locks : (d : Draft) (key : List ℕ) → IsLeastUnlocked d.writes (named_keys d.ops) key → IsLocked d → ⊥
+no_locks : (d : Draft) (key : List ℕ) → IsLeastUnlocked d.writes (named_keys d.ops) key → HasLockedKeys d → ⊥
 no_locks d key least locked = least.unlocked (locked.keys key least.named)
 
 -- ---- one refusal

@@ -7,7 +7,7 @@ use Rattle.tx_model.specs.Transactions.{HasDouble}
 use Rattle.proto_model.specs.declared.refusal.BuildFault.{BuildFault}
 use Rattle.proto_model.specs.declared.refusal.BuildFault.TheVariants.{BadOps, TooManyLocks, DoubleLock, PayloadTooLong, Unlocked, LastRequest, Memory}
 use Rattle.client_core.specs.Clients.{ClientOf}
-use Rattle.client_core.specs.Building.{Draft, has_double, form_refusal, unlocked_key, request_refusal, or_unlocked, or_earlier, build_refusal, named_keys, IsLeastUnlocked, HasPayload, IsLocked, IsBuildable, IsRefusal}
+use Rattle.client_core.specs.Building.{Draft, has_double, form_refusal, unlocked_key, request_refusal, or_unlocked, or_earlier, build_refusal, named_keys, IsLeastUnlocked, HasPayload, HasLockedKeys, IsBuildable, IsRefusal}
 use Rattle.client_core.proofs.Builds.{unlocked_is_least}
 use Rattle.client_core.proofs.Covered.{all_among, no_earlier}
 use Rattle.client_core.proofs.Doubles.{double_tested, double_from_test}
@@ -37,18 +37,18 @@ of_form d true false false false t m o l = record { names = record { locks = rec
 form_says : (d : Draft) → Says d (form_refusal d.writes d.reads d.ops) (HasPayload d)
 form_says d = of_form d _ _ _ _ refl refl refl refl
 
-keys_say : (d : Draft) → HasPayload d → (key : Option (List ℕ)) → unlocked_key d.writes d.ops ≡ key → Says d (or_unlocked key None) (IsLocked d)
+keys_say : (d : Draft) → HasPayload d → (key : Option (List ℕ)) → unlocked_key d.writes d.ops ≡ key → Says d (or_unlocked key None) (HasLockedKeys d)
 keys_say d payload None free = record { payload = payload; keys = all_among d.writes (named_keys d.ops) free }
 keys_say d payload (Some key) found = (payload, unlocked_is_least d.writes d.ops key found)
 
-request_says : (d : Draft) → IsLocked d → Says d (request_refusal d.request) (IsBuildable d)
+request_says : (d : Draft) → HasLockedKeys d → Says d (request_refusal d.request) (IsBuildable d)
 request_says d locked =
     elim (d.request == 2 ^ 64 - 1) as (λ b. (d.request == 2 ^ 64 - 1) ≡ b → Says d (if b then Some LastRequest else None) (IsBuildable d)) [
       | true ↦ λ last. (locked, grind (arith, nat_tests, last))
       | false ↦ λ other. record { locked = locked; request = grind (arith, nat_tests, other) }
     ] refl
 
-later_says : (d : Draft) (key : Option (List ℕ)) → Says d (or_unlocked key None) (IsLocked d) → Says d (or_unlocked key (request_refusal d.request)) (IsBuildable d)
+later_says : (d : Draft) (key : Option (List ℕ)) → Says d (or_unlocked key None) (HasLockedKeys d) → Says d (or_unlocked key (request_refusal d.request)) (IsBuildable d)
 later_says d None locked = request_says d locked
 later_says d (Some key) is = is
 
@@ -114,7 +114,7 @@ not_refused cl writes reads ops none free other =
     let test : (cl.request == 2 ^ 64 - 1) ≡ false = grind (arith, nat_tests, other) in
     ap (λ b. if b then Some LastRequest else None) (sym test) ∙ (ap (λ o. or_unlocked o (request_refusal cl.request)) free ∙ later_refused cl writes reads ops none)
 
--- want of memory is no refusal
+-- running out of memory is no refusal
 pub not_memory : {S : Type 0} (cl : ClientOf S) (writes reads : List (List ℕ)) (ops : List ℕ) → Some Memory ≡ build_refusal cl writes reads ops → ⊥
 not_memory cl writes reads ops is =
     let d : Draft = draft cl writes reads ops in

@@ -41,7 +41,7 @@ abbrev pub or_earlier : Option BuildFault → Option BuildFault → Option Build
 or_earlier None later = later
 or_earlier (Some fault) later = Some fault
 
--- why a client builds no transaction, but for want of memory. Of several reasons the first of these is told
+-- why a client builds no transaction, but where memory runs out. Of several reasons the first of these is told
 unfoldable pub build_refusal : {S : Type 0} → ClientOf S → List (List ℕ) → List (List ℕ) → List ℕ → Option BuildFault
 build_refusal cl writes reads ops =
     or_earlier (form_refusal writes reads ops) (or_unlocked (unlocked_key writes ops) (request_refusal cl.request))
@@ -86,16 +86,16 @@ pub record HasPayload (d : Draft) : Type 0 where
   pub names : HasNames d
   pub short : length d.ops ≤ 65536
 
-pub record IsLocked (d : Draft) : Type 0 where
+pub record HasLockedKeys (d : Draft) : Type 0 where
   pub payload : HasPayload d
   pub keys : (key : List ℕ) → Contains (named_keys d.ops) key → Contains d.writes key
 
 -- it passes all tests
 pub record IsBuildable (d : Draft) : Type 0 where
-  pub locked : IsLocked d
+  pub locked : HasLockedKeys d
   pub request : d.request ≢ 2 ^ 64 - 1
 
--- ---- the refusal of the first test that is not passed. Want of memory is no such refusal
+-- ---- the refusal of the first test that is not passed. Running out of memory is no such refusal
 
 abbrev pub IsRefusal : Draft → BuildFault → Type 0
 IsRefusal d (BadOps at) = IsBadAt d.ops at
@@ -103,5 +103,5 @@ IsRefusal d TooManyLocks = HasOps d × (64 < length d.reads + length d.writes)
 IsRefusal d DoubleLock = HasFewLocks d × HasDouble (d.reads ++ d.writes)
 IsRefusal d PayloadTooLong = HasNames d × (65536 < length d.ops)
 IsRefusal d (Unlocked key) = HasPayload d × IsLeastUnlocked d.writes (named_keys d.ops) key
-IsRefusal d LastRequest = IsLocked d × (d.request ≡ 2 ^ 64 - 1)
+IsRefusal d LastRequest = HasLockedKeys d × (d.request ≡ 2 ^ 64 - 1)
 IsRefusal d Memory = ⊥

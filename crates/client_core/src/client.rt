@@ -197,7 +197,7 @@ impl<A: App> Client<A> {
         Ok(tx)
     }
 
-    // Why this is not built, where that can be told for want of memory.
+    // Why this is not built, where that can be told though memory runs out.
     fn refusal(
         &self,
         writes: &[Lock],

@@ -3,9 +3,10 @@ use Rattle.std.proofs.Common.{◌≡◌, ℕ, ◌+◌, List, [], ◌++◌, lengt
 use Rattle.std.specs.List.{AllByRecursion}
 use Rattle.std.proofs.lemmas.List.{append-nil, take_all, drop_all}
 use Rattle.disk_model.specs.File.{File, IsDuring, settled, written, overlaid}
-use Rattle.disk_model.specs.Frames.{IsFrame, IsFraming, joined, EachImage, IsPrefixOf}
+use Rattle.tx_model.specs.Frames.{IsFrame, IsFraming, joined, IsPrefixOf}
+use Rattle.disk_model.specs.Frames.{EachImage}
 use Rattle.disk_model.specs.History.{History, EachMoment}
-use Rattle.disk_model.proofs.Walks.{joined-append, all-append}
+use Rattle.tx_model.proofs.Walks.{joined-append, all-append}
 use Rattle.disk_model.proofs.Images.{keeps_images, keeps_written, keeps_settled, empty, Keeps}
 use Rattle.disk_model.proofs.Moments.{goes_on, weaker, firmer_images}
 

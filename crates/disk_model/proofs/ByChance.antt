@@ -7,11 +7,12 @@ use Rattle.std.proofs.lemmas.List.{append-nil, drop_at, take_at, length-take-le,
 use Rattle.std.proofs.lemmas.Grind.{same_number_lists}
 use Rattle.std.proofs.lemmas.Slice.Eq.{bytes_eq-Decides}
 use Rattle.disk_model.specs.File.{File, IsImage, IsSyncedAsPut, IsSound}
-use Rattle.disk_model.specs.Frames.{IsFrame, IsFraming, IsAsPut, EachImage, joined, frames_in}
+use Rattle.tx_model.specs.Frames.{IsFrame, IsFraming, joined, frames_in}
+use Rattle.disk_model.specs.Frames.{IsAsPut, EachImage}
 use Rattle.disk_model.specs.History.{Files, History, moments, EachMoment, Always}
 use Rattle.disk_model.proofs.Moments.{weaker, always_too}
 use Rattle.disk_model.specs.Chance.{AnyByChance, FrameOf, PassesByChance, IsOther, StandsWhereNone, place_of}
-use Rattle.disk_model.proofs.Walks.{joined-append, all-append}
+use Rattle.tx_model.proofs.Walks.{joined-append, all-append}
 
 -- one frame more is moved from the front to the others
 joined_on : {put : List ℕ} (gs fs : List (List ℕ)) (f more : List ℕ) → joined (gs ++ f ∷ []) ≡ joined gs ++ f

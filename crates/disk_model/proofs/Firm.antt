@@ -7,8 +7,9 @@ use Rattle.std.proofs.lemmas.Bool.Decides.{nat_tests}
 use Rattle.std.proofs.lemmas.Grind.{same_number_lists}
 use Rattle.std.proofs.lemmas.List.{append-nil, take_at, drop_at, take_all, take-append-le, drop-append-le, length-take-le, get_or-take, get_or_append_left}
 use Rattle.disk_model.specs.File.{File, IsFirmer, IsPlain, IsSyncedAsPut, Begins, settled, shortened}
-use Rattle.disk_model.specs.Frames.{IsFrame, IsFraming, IsFirm, HasFirmFrames, IsPrefixOf, joined, frames_in, EachImage}
-use Rattle.disk_model.proofs.Walks.{split, none_before}
+use Rattle.tx_model.specs.Frames.{IsFrame, IsFraming, IsPrefixOf, joined, frames_in}
+use Rattle.disk_model.specs.Frames.{IsFirm, HasFirmFrames, EachImage}
+use Rattle.tx_model.proofs.Walks.{split, none_before}
 use Rattle.disk_model.proofs.Images.{Keeps, keeps_images}
 
 -- no more frames than these

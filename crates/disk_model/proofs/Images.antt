@@ -6,8 +6,9 @@ use Rattle.std.proofs.lemmas.Bool.Decides.{nat_tests}
 use Rattle.std.proofs.lemmas.Grind.{same_number_lists}
 use Rattle.std.proofs.lemmas.List.{append-nil, append_cancel_left, take_at, length-take-le, get_or-take, take_all, drop_all}
 use Rattle.disk_model.specs.File.{File, IsImage, IsPlain, settled, written, shortened}
-use Rattle.disk_model.specs.Frames.{IsFrame, IsFraming, joined, frames_in, EachImage, IsPrefixOf}
-use Rattle.disk_model.proofs.Walks.{joined-append, all-append, split, frames_in-joined, first_of_them}
+use Rattle.tx_model.specs.Frames.{IsFrame, IsFraming, joined, frames_in, IsPrefixOf}
+use Rattle.disk_model.specs.Frames.{EachImage}
+use Rattle.tx_model.proofs.Walks.{joined-append, all-append, split, frames_in-joined, first_of_them}
 
 -- each image has the synced bytes below n, where no place below n is unsynced
 pub image_long : (file : File) (c : List ℕ) (n : ℕ) → IsImage file c → ((i : ℕ) → i < n → file.unsynced i ≡ false) → n ≤ length file.synced → n ≤ length c

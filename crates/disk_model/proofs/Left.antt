@@ -2,7 +2,8 @@
 use Rattle.std.proofs.Common.{◌≡◌, inl, inr, ℕ, List, [], ◌∷◌, sym, subst}
 use Rattle.std.specs.List.{AllByRecursion}
 use Rattle.disk_model.specs.File.{File, IsImage, IsPlain, IsSound}
-use Rattle.disk_model.specs.Frames.{EachImage, frames_in}
+use Rattle.tx_model.specs.Frames.{frames_in}
+use Rattle.disk_model.specs.Frames.{EachImage}
 use Rattle.disk_model.specs.Chance.{EachLeft}
 use Rattle.disk_model.specs.History.{Files, History, moments, EachMoment, Always}
 use Rattle.disk_model.proofs.ByChance.{each_image}

@@ -1,4 +1,3 @@
-pub mod Walks
 pub mod Moments
 pub mod Images
 pub mod Appends

@@ -3,9 +3,10 @@ use Rattle.std.proofs.Common.{◌≡◌, ◌≢◌, inl, inr, ℕ, List, [], ◌
 use Rattle.std.specs.List.{AllByRecursion}
 use Rattle.std.proofs.lemmas.Bool.{cases_Bool}
 use Rattle.disk_model.specs.File.{File, IsImage, IsFirmer, Begins, IsPlain}
-use Rattle.disk_model.specs.Frames.{EachImage, IsAsPut, joined}
+use Rattle.tx_model.specs.Frames.{joined}
+use Rattle.disk_model.specs.Frames.{EachImage, IsAsPut}
 use Rattle.disk_model.specs.History.{Files, History, moments, EachMoment, AtEach, Always}
-use Rattle.disk_model.proofs.Walks.{all-append}
+use Rattle.tx_model.proofs.Walks.{all-append}
 
 all_weaker : {A : Type 0} (P Q : A → Type 0) (xs : List A) → ((x : A) → P x → Q x) → AllByRecursion P xs → AllByRecursion Q xs
 all_weaker P Q [] to all = tt

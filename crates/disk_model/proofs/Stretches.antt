@@ -1,7 +1,7 @@
 -- A file read on by a piece, whatever frames it holds.
 use Rattle.std.proofs.Common.{◌≡◌, ℕ, ◌+◌, ◌-◌, ◌≤◌, List, [], ◌++◌, length, take, drop, refl, sym, ◌∙◌, ap, arith, append_assoc, take-append-drop}
 use Rattle.std.proofs.lemmas.List.{append-nil, drop-drop, drop_all, drop-append-le}
-use Rattle.disk_model.specs.Frames.{IsFraming}
+use Rattle.tx_model.specs.Frames.{IsFraming}
 use Rattle.disk_model.specs.Stretches.{IsReadAt}
 use Rattle.disk_model.specs.declared.stretch.Stretch.{Stretch}
 use Rattle.disk_model.proofs.Images.{empty}

@@ -3,8 +3,9 @@ use Rattle.std.proofs.Common.{◌≡◌, ℕ, List, [], length, take, refl, sym,
 use Rattle.std.proofs.lemmas.List.{append-nil, take_at}
 use Rattle.disk_model.specs.File.{File, IsDuring, IsSound, settled, shortened}
 use Rattle.disk_model.specs.History.{History, EachMoment, Always}
-use Rattle.disk_model.specs.Frames.{IsFraming, IsFirm, HasFirmFrames, IsAtRest, joined, frames_in}
-use Rattle.disk_model.proofs.Walks.{Split, frames_in-joined, split}
+use Rattle.tx_model.specs.Frames.{IsFraming, joined, frames_in}
+use Rattle.disk_model.specs.Frames.{IsFirm, HasFirmFrames, IsAtRest}
+use Rattle.tx_model.proofs.Walks.{Split, frames_in-joined, split}
 use Rattle.disk_model.proofs.Images.{empty}
 use Rattle.disk_model.proofs.Firm.{firm_firmer, firm_settled, firm_shortened}
 use Rattle.disk_model.proofs.Moments.{weaker, goes_on, always_too}

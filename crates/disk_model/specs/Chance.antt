@@ -2,7 +2,7 @@
 use Rattle.std.specs.Prelude.{◌≡◌, ◌≢◌, ◌⊎◌, ℕ, ◌+◌, ◌<◌, ◌≤◌, true, List, ◌++◌, length, take, drop}
 use Rattle.std.specs.List.{AllByRecursion}
 use Rattle.disk_model.specs.File.{File, IsImage}
-use Rattle.disk_model.specs.Frames.{IsFrame, joined, frames_in}
+use Rattle.tx_model.specs.Frames.{IsFrame, joined, frames_in}
 
 -- one of the frames that these bytes begin with
 pub record FrameOf (len : List ℕ → ℕ) (c : List ℕ) : Type 0 where

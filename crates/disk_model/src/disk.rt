@@ -11,7 +11,7 @@ use io_core::{Failed, Fault};
 /// the places that were written, cut away or newly reached, and leaves the others as they are. A clause on moments
 /// speaks of each one since the call's start, whatever the result is.
 ///
-/// A call answers a fault only where the count of faults rose, and after want of memory nothing has changed.
+/// A call answers a fault only where the count of faults rose, and after running out of memory nothing has changed.
 pub trait Disk {
     /// Whether it tells its content. A real disk doesn't.
     ghost tells: { Type 0 };
@@ -22,7 +22,7 @@ pub trait Disk {
     /// The files now and at each moment before.
     ghost history: { Self → History };
 
-    /// How often a call has failed, up to the greatest `u64`. Want of memory is no fault.
+    /// How often a call has failed, up to the greatest `u64`. Running out of memory is no fault.
     ghost faults: { Self → ℕ };
 
     /// Whether no call was chosen to fail, so that one fails only by a fuse, up to the crash that takes it away.

@@ -2,7 +2,8 @@
 ghost use Rattle.std.specs.Prelude.{◌≡◌, ◌≤◌, ℕ, List, length, take};
 ghost use Rattle.disk_model.specs.Chance.{PassesByChance};
 ghost use Rattle.disk_model.specs.File.{File, IsDuring, IsImage, IsPlain, IsSound, IsSyncedAsPut, overlaid, settled, shortened, written};
-ghost use Rattle.disk_model.specs.Frames.{HasFirmFrames, IsAsPut, IsFirm, IsFraming, frames_in, joined};
+ghost use Rattle.tx_model.specs.Frames.{IsFraming, frames_in, joined};
+ghost use Rattle.disk_model.specs.Frames.{HasFirmFrames, IsAsPut, IsFirm};
 ghost use Rattle.disk_model.specs.History.{Always, EachMoment, History, changed_at};
 
 use crate::Disk;

@@ -52,7 +52,7 @@ impl MemDisk {
     }
 
     /// An empty disk. Call number k, counted from 1 and up to the greatest `u64`, fails where k stands in `fails`. A
-    /// call that meets want of memory is not counted.
+    /// call that runs out of memory is not counted.
     pub fn failing(alloc: Global, fails: Vec<u64>) -> MemDisk
         ensures { result
             ≡ record { changes = []; fails = fails.items; fuse = Off; calls = 0; faults = 0 } }

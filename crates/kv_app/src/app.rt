@@ -17,7 +17,7 @@ pub trait App {
     /// What a state is printed as.
     ghost shown: { State → List ℕ };
 
-    /// Goes to the next state, or leaves the state for want of memory.
+    /// Goes to the next state, or leaves the state where memory runs out.
     fn apply(&mut self, payload: &[u8]) -> Result<(), AllocError>
         ensures ok { OnOk result (state self.new ≡ next (state self.old) payload.now) }
         ensures err { OnErr result (state self.new ≡ state self.old) }

@@ -1,7 +1,7 @@
 //! The application of the log: keys with numbers, which op texts change.
 //!
 //! An op text is read in two passes. The first takes no memory and finds the place of a fault. The second makes the
-//! operations, and can fail only for want of memory.
+//! operations, and can fail only where memory runs out.
 #![tactic(auto)]
 
 mod amount;

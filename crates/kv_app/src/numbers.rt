@@ -114,7 +114,7 @@ fn change_each(numbers: &mut Numbers, ops: &[Op])
     }
 }
 
-/// Does the operations in order, or none of them for want of memory. A deleted key is gone.
+/// Does the operations in order, or none of them where memory runs out. A deleted key is gone.
 pub(crate) fn change_all(alloc: Global, numbers: &mut Numbers, ops: &[Op]) -> Result<(), AllocError>
     requires { HaveNumbers (λ k. k.items) numbers.old.entries }
     ensures ok { OnOk result (application_of (λ k. k.items) numbers.new.entries ≡ after_ops (application_of (λ k. k.items) numbers.old.entries) ops.now) }

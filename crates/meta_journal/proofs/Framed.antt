@@ -5,13 +5,15 @@ use Rattle.tx_model.specs.declared.meta.Meta.{Meta}
 use Rattle.tx_model.specs.Spelling.{meta_body, meta_frame, IsMeta, SpellsMeta}
 use Rattle.record_frame.specs.declared.fault.FrameFault.{FrameFault}
 use Rattle.record_frame.specs.Faults.{IsMetaLength}
-use Rattle.record_frame.specs.Reading.{is_meta_length, meta_in, meta_at, read_length}
-use Rattle.record_frame.specs.Framing.{meta_len, framed_meta}
+use Rattle.tx_model.specs.Reading.{is_meta_length, meta_in}
+use Rattle.record_frame.specs.Reading.{meta_at, read_length}
+use Rattle.tx_model.specs.Framing.{meta_len, framed_meta}
+use Rattle.record_frame.proofs.Lengths.{meta_len-read}
 use Rattle.record_frame.proofs.FrontFrames.{meta_len-within, meta_len-alike, meta_at-len, meta-spelling-framed, alike}
 use Rattle.record_frame.proofs.Metas.{meta_format}
-use Rattle.disk_model.specs.Frames.{IsFrame, IsFraming, joined, frames_in}
-use Rattle.disk_model.proofs.Walks.{frames_in-step, frames_in-stop}
-use Rattle.meta_journal.specs.Entries.{entries_of, entries_in}
+use Rattle.tx_model.specs.Frames.{IsFrame, IsFraming, joined, frames_in}
+use Rattle.tx_model.proofs.Walks.{frames_in-step, frames_in-stop}
+use Rattle.tx_model.specs.Contents.{entries_of, entries_in}
 
 front : (bs : List ℕ) → 0 < meta_len bs → meta_len (take (meta_len bs) bs) ≡ meta_len bs
 front bs some =
@@ -49,8 +51,7 @@ entries_of-append fs gs = map-append framed_meta fs gs
 -- ---- what is read from the front
 
 same_length : (bs : List ℕ) → read_length (meta_at bs) ≡ meta_len bs
-unfolding meta_len
-same_length bs = refl
+same_length bs = sym (meta_len-read bs)
 
 -- an entry is read, and then those behind it
 pub entries_in-step : (bs : List ℕ) (m : Meta) (n : ℕ) → meta_at bs ≡ Ok (m, n) → entries_in bs ≡ m ∷ entries_in (drop n bs)
@@ -81,8 +82,7 @@ ends-step bs m n is =
 
 -- no entry is read
 pub none-left : (bs : List ℕ) (e : FrameFault) → meta_at bs ≡ Err e → (entries_in bs ≡ []) × (length (joined (frames_in meta_len bs)) ≡ 0)
-unfolding meta_len
 none-left bs e is =
-    let none : meta_len bs ≡ 0 = ap read_length is in
+    let none : meta_len bs ≡ 0 = meta_len-read bs ∙ ap read_length is in
     let stop = frames_in-stop meta_len framing bs none in
     (ap entries_of stop, ap (λ (fs : List (List ℕ)). length (joined fs)) stop)

@@ -4,17 +4,19 @@ use Rattle.std.specs.List.{AllByRecursion}
 use Rattle.std.proofs.lemmas.List.{append-nil}
 use Rattle.tx_model.specs.declared.meta.Meta.{Meta}
 use Rattle.tx_model.specs.Spelling.{meta_frame, IsMeta}
-use Rattle.record_frame.specs.Framing.{meta_len}
+use Rattle.tx_model.specs.Framing.{meta_len}
 use Rattle.disk_model.specs.File.{File, IsImage, IsDuring, IsPlain, IsSound, settled, written, overlaid}
 use Rattle.disk_model.specs.History.{History, EachMoment, Always}
-use Rattle.disk_model.specs.Frames.{IsFirm, IsFrame, joined, frames_in, EachImage, IsPrefixOf}
-use Rattle.disk_model.proofs.Walks.{all-append, joined-append, frames_in-joined, split}
+use Rattle.tx_model.specs.Frames.{IsFrame, joined, frames_in, IsPrefixOf}
+use Rattle.disk_model.specs.Frames.{IsFirm, EachImage}
+use Rattle.tx_model.proofs.Walks.{all-append, joined-append, frames_in-joined, split}
 use Rattle.disk_model.proofs.Images.{empty, image_settled}
 use Rattle.disk_model.proofs.Moments.{weaker}
 use Rattle.disk_model.proofs.Firm.{firm_images}
 use Rattle.disk_model.proofs.Left.{each_left}
 use Rattle.disk_model.proofs.Appends.{append_writes, append_syncs, reads_mid}
-use Rattle.meta_journal.specs.Entries.{entries_of, entries_in, HasEntry, EachLeftHas, IsTidy, IsEntered}
+use Rattle.tx_model.specs.Contents.{entries_of, entries_in}
+use Rattle.meta_journal.specs.Entries.{HasEntry, EachLeftHas, IsTidy, IsEntered}
 use Rattle.meta_journal.proofs.Framed.{framing, one_frame, entries_of-append}
 
 prefix-entries : (fs gs : List (List ℕ)) (e : Meta) → IsMeta e → IsPrefixOf fs (meta_frame e ∷ []) gs → HasEntry (entries_of fs) e (entries_of gs)

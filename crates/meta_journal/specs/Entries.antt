@@ -1,18 +1,12 @@
 -- The entries that the frames of a journal hold.
-use Rattle.std.specs.Prelude.{◌≡◌, ◌⊎◌, ℕ, List, [], ◌∷◌, ◌++◌, map}
+use Rattle.std.specs.Prelude.{◌≡◌, ◌⊎◌, ℕ, List, [], ◌∷◌, ◌++◌}
 use Rattle.tx_model.specs.declared.meta.Meta.{Meta}
-use Rattle.record_frame.specs.Framing.{meta_len, framed_meta}
+use Rattle.tx_model.specs.Framing.{meta_len}
+use Rattle.tx_model.specs.Contents.{entries_of, entries_in}
 use Rattle.disk_model.specs.File.{File, IsImage}
 use Rattle.disk_model.specs.Chance.{EachLeft}
-use Rattle.disk_model.specs.Frames.{frames_in, IsAtRest}
+use Rattle.disk_model.specs.Frames.{IsAtRest}
 use Rattle.disk_model.specs.History.{History}
-
-abbrev pub entries_of : List (List ℕ) → List Meta
-entries_of frames = map framed_meta frames
-
--- the entries of the whole and right frames at the front of these bytes
-abbrev pub entries_in : List ℕ → List Meta
-entries_in bytes = entries_of (frames_in meta_len bytes)
 
 -- the entries of the journal now
 abbrev pub entries_at : History → List Meta

@@ -1,9 +1,13 @@
 //! Loading: the file is read at once, and its entries up to the first frame that is not whole and right are taken.
-ghost use Rattle.std.specs.Prelude.{◌≡◌, ℕ, List, [], ◌∷◌, ◌+◌, ◌++◌, ◌<◌, ◌≤◌, length, IfOk, OnOk, IsErrOf};
-ghost use Rattle.record_frame.specs.Framing.{meta_len};
-ghost use Rattle.disk_model.specs.Frames.{joined, frames_in, IsFirm, HasFirmFrames};
+ghost use Rattle.std.specs.Prelude.{◌≡◌, ℕ, List, [], ◌∷◌, ◌+◌, ◌++◌, ◌<◌, ◌≤◌, ◌^◌, All, length, IfOk, OnOk, IsErrOf};
+ghost use Rattle.std.specs.List.{flat_map};
+ghost use Rattle.tx_model.specs.Spelling.{IsMeta, meta_frame};
+ghost use Rattle.tx_model.specs.Framing.{meta_len};
+ghost use Rattle.tx_model.specs.Frames.{joined, frames_in};
+ghost use Rattle.disk_model.specs.Frames.{IsFirm, HasFirmFrames};
 ghost use Rattle.disk_model.specs.History.{EachMoment, KeepsWorking};
-ghost use Rattle.meta_journal.specs.Entries.{entries_in, entries_at, EachLeftHas, IsTidy};
+ghost use Rattle.tx_model.specs.Contents.{entries_in};
+ghost use Rattle.meta_journal.specs.Entries.{entries_at, EachLeftHas, IsTidy};
 ghost use Rattle.meta_journal.specs.Faults.{HasDiskCause};
 ghost use Rattle.meta_journal.specs.declared.fault.JournalFault.TheVariants.{Disk as Broke, Memory as NoMemory};
 
@@ -38,6 +42,9 @@ fn decode_all(alloc: Global, bytes: &[u8]) -> Result<Front, AllocError>
     ensures entries { IfOk result (λ front. front.entries.items ≡ entries_in bytes.now) }
     ensures end { IfOk result (λ front.
         front.end ≡ length (joined (frames_in meta_len bytes.now))) }
+    ensures valid { IfOk result (λ front. All IsMeta front.entries.items) }
+    ensures places { IfOk result (λ front. (front.end ≡ length (flat_map meta_frame front.entries.items))
+        × (front.end < 2 ^ 64)) }
 {
     let mut entries = Vec::new(alloc);
     let mut rest = bytes;
@@ -92,6 +99,8 @@ impl Journal {
 
     /// The first part of `load`: it reads, and leaves the disk as it is.
     pub fn read<D: Disk>(alloc: Global, disk: &mut D) -> Result<(Journal, Vec<Meta>), JournalFault>
+        ensures valid { IfOk result (λ x. All IsMeta x.1.items) }
+        ensures places { IfOk result (λ x. (x.0 ≡ length (flat_map meta_frame x.1.items)) × (x.0 < 2 ^ 64)) }
         ensures entries { IfOk result (λ x. D.tells →
             x.1.items ≡ entries_at (D.history disk.old)) }
         ensures end { IfOk result (λ x. D.tells →
@@ -103,6 +112,13 @@ impl Journal {
         let bytes = read_all(alloc, disk)?;
         let front = decode_all(alloc, &bytes)?;
         Ok((Journal { end: front.end }, front.entries))
+    }
+
+    /// Where the last entry ends.
+    pub fn end(&self) -> u64
+        ensures { result ≡ self.now }
+    {
+        self.end
     }
 
     /// The second part of `load`: cuts the file where the last entry ends, and syncs it, also where nothing was cut.

@@ -27,13 +27,13 @@ use Rattle.proto_model.specs.Validity.{IsAskedId, IsUpTo, IsHead, HeadsRise, Are
 use Rattle.proto_model.specs.Sanity.{IsValidServer}
 use Rattle.proto_model.proofs.TableLemmas.{either, if_each, AllByRecursion-append}
 use Rattle.proto_model.proofs.SaneServers.{messages}
+use Rattle.feed_service.proofs.Parts.{log_within}
 use Rattle.partition_server.specs.declared.fault.ReadFault.{ReadFault}
 use Rattle.partition_server.specs.declared.fault.ReadFault.TheVariants as unread
 use Rattle.partition_server.specs.Answers.{addressed}
 use Rattle.partition_server.specs.Faults.{read_refusal_of, or_unserved, feed_refusal, entry_refusal, holds_copies}
-use Rattle.partition_server.specs.Waits.{WaitInOrder}
+use Rattle.partition_server.specs.Waits.{WaitUpTo}
 use Rattle.partition_server.proofs.Waits.{AreValidAnswers, due_valid}
-use Rattle.partition_server.proofs.Appends.{log_within}
 
 -- ---- messages to nodes
 
@@ -41,6 +41,14 @@ pub next_valid : (c : Config) (sv : ServerState) (i : ℕ) (r : Result (Option T
 next_valid c sv i (Ok None) ok h = tt
 next_valid c sv i (Ok (Some m)) ok h = messages c sv i m ok (sym h)
 next_valid c sv i (Err e) ok h = tt
+
+pub some_valid : (c : Config) (sv : ServerState) (i : ℕ) (m : ToNode) → IsValidServer c sv → Some m ≡ next_message c sv i → IsValidToNode m
+some_valid c sv i m ok is = messages c sv i m ok (sym is)
+
+-- a message that is what another one is
+pub next_is : (r : Result (Option ToNode) AllocError) {m n : Option ToNode} → m ≡ n → IfOk r (λ x. x ≡ m) → IfOk r (λ x. x ≡ n)
+next_is (Ok x) same h = h ∙ same
+next_is (Err e) same h = tt
 
 abbrev AreValidMessages : List (ℕ × ToNode) → Type 0
 AreValidMessages sent = AllByRecursion (λ (s : ℕ × ToNode). IsValidToNode s.1) sent
@@ -57,12 +65,12 @@ all_next_valid c sv (suc n) ok =
 
 -- ---- answers that became due
 
-ack_valid : (c : Config) (sv : ServerState) (i len : ℕ) → RiseByOne 1 sv.log → WaitInOrder 0 (length sv.log) sv.waiting → AreValidAnswers (map addressed (ack_answers c sv i len))
+ack_valid : (c : Config) (sv : ServerState) (i len : ℕ) → RiseByOne 1 sv.log → WaitUpTo (length sv.log) sv.waiting → AreValidAnswers (map addressed (ack_answers c sv i len))
 ack_valid c sv i len rise ok =
     either (λ ws. AreValidAnswers (map addressed ws)) (takes_ack c sv i len) (is_due (commit_mark c (acked_by sv i len)) sv.waiting) []
-    (due_valid (commit_mark c (acked_by sv i len)) 0 (length sv.log) sv.waiting (log_within sv.log rise) ok) tt
+    (due_valid (commit_mark c (acked_by sv i len)) (length sv.log) sv.waiting (log_within sv.log rise) ok) tt
 
-pub heard_valid : (c : Config) (sv : ServerState) (i : ℕ) (m : FromNode) → RiseByOne 1 sv.log → WaitInOrder 0 (length sv.log) sv.waiting → AreValidAnswers (map addressed (received_answers c sv i m))
+pub heard_valid : (c : Config) (sv : ServerState) (i : ℕ) (m : FromNode) → RiseByOne 1 sv.log → WaitUpTo (length sv.log) sv.waiting → AreValidAnswers (map addressed (received_answers c sv i m))
 heard_valid c sv i (from_node.Opened s adopted low len) rise ok = tt
 heard_valid c sv i (from_node.Stale s p) rise ok = tt
 heard_valid c sv i (from_node.Unopened s p) rise ok = tt
@@ -83,7 +91,7 @@ reached_within n reaches (suc k) =
     let rest = reached_within n reaches k in
     either (λ x. x ≤ suc k) _ (suc k) (reached n reaches k) (omega arith) (omega (arith, rest))
 
-mark_within : (c : Config) (sv : ServerState) → commit_mark c sv ≤ length sv.log
+pub mark_within : (c : Config) (sv : ServerState) → commit_mark c sv ≤ length sv.log
 mark_within c sv = reached_within c.nodes (holds sv) (length sv.log)
 
 pub mark_count : (c : Config) (sv : ServerState) → RiseByOne 1 sv.log → IsCount (commit_mark c sv)
@@ -209,15 +217,11 @@ get_copied c sv id none =
     (λ same. absurd (let test = if_none (id == 0) unserved.BadId zero_none in let e : true ≡ false = sym same ∙ test in cc))
     (λ other. at_copied (committed_log c sv) id (commit_mark c sv) (grind (arith, nat_tests, other)) (omega (arith, low, within, len))))
 
--- where a fault that is want of memory comes only without a refusal
+-- where a fault that is running out of memory comes only without a refusal
 pub copied_on_error : {A E : Type 0} (r : Result A E) (fault : ReadFault) (answer : FromServer) (refusal : Option ReadRefusal) → OnErr r (fault ≡ unread.Memory) → read_refusal_of fault ≡ refusal →
     (refusal ≡ None → holds_copies answer ≡ true) → OnErr r (holds_copies answer ≡ true)
 copied_on_error (Ok x) fault answer refusal memory told is = tt
 copied_on_error (Err e) fault answer refusal memory told is = is (sym told ∙ ap read_refusal_of memory)
-
-pub some_heads : (records : List Record) (k : ℕ) → k < length records → map head_of records ≡ [] → ⊥
-some_heads [] k low none = omega (arith, low)
-some_heads (r ∷ records) k low none = cc
 
 -- the same of what answers, where it says so of a list
 pub result_valid : {V E : Type 0} (items : V → List (ℕ × FromServer)) (r : Result V E) (waiting : List Waiting) → IfOk r (λ v. items v ≡ map addressed waiting) → AreValidAnswers (map addressed waiting) → IfOk r (λ v. AreValidAnswers (items v))

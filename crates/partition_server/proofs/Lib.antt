@@ -1,9 +1,9 @@
 pub mod Results
-pub mod Choosing
-pub mod Counts
+pub mod ByIds
 pub mod Waits
+pub mod Servings
+pub mod Kepts
 pub mod Helds
-pub mod Parts
-pub mod Appends
 pub mod Answering
 pub mod Messages
+pub mod Exact

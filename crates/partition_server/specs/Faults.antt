@@ -16,7 +16,7 @@ use Rattle.partition_server.specs.declared.fault.ReadFault.TheVariants as unread
 
 -- ---- appends
 
--- want of memory tells of no refusal
+-- running out of memory tells of no refusal
 abbrev pub refusal_of : AppendFault → Option Refusal
 refusal_of (fault.NotRunning phase) = Some (refused.NotRunning phase)
 refusal_of (fault.Closed session) = Some (refused.Closed session)
@@ -85,6 +85,6 @@ abbrev pub serving_takes_memory : List FromServer → Bool
 serving_takes_memory [] = true
 serving_takes_memory (answer ∷ answers) = holds_copies answer
 
--- for a reply: it adds a report or records, or makes answers due
+-- for a reply: it adds records, or makes answers due
 abbrev pub AddsOrAnswers : ServerState → ServerState → List Waiting → Type 0
-AddsOrAnswers old new answers = (length old.reports < length new.reports) ⊎ (length old.log < length new.log) ⊎ (answers ≢ [])
+AddsOrAnswers old new answers = (length old.log < length new.log) ⊎ (answers ≢ [])

@@ -4,19 +4,12 @@ use Rattle.partition_server.specs.Held.{Held, IsHeld}
 
 abbrev pub held_by : Inside → Held
 held_by s = record {
-  nodes = s.nodes;
-  rows = s.rows;
-  slots = s.slots;
-  phase = s.phase;
-  session = s.session;
-  log = s.log.items;
-  reports = s.reports.items;
-  reported = s.reported;
-  staged = s.staged;
-  lows = s.lows;
-  adopted = s.acks.adopted;
-  acked = s.acks.acked;
-  waiting = s.waiting.items;
+  rows = s.locks.rows;
+  slots = s.locks.slots;
+  known = s.nodes;
+  kept = s.acks;
+  log = s.log.log;
+  waiting = s.waiting;
 }
 
 abbrev pub IsServer : Inside → Type 0

@@ -36,7 +36,7 @@ pub enum ReadFault {
 impl AppendFault {
     ghost use Rattle.partition_server.specs.Faults.{refusal_of};
 
-    /// What a client is told. There is nothing to tell of want of memory.
+    /// What a client is told. There is nothing to tell of running out of memory.
     pub fn refusal(self) -> Option<Refusal>
         ensures { result ≡ refusal_of self }
     {
@@ -68,7 +68,7 @@ impl ReadFault {
         }
     }
 
-    /// What a client is told. There is nothing to tell of want of memory.
+    /// What a client is told. There is nothing to tell of running out of memory.
     pub fn refusal(self) -> Option<ReadRefusal>
         ensures { result ≡ read_refusal_of self }
     {

@@ -20,7 +20,7 @@ fn admit_with<L: Ledger>(server: &Server, tx: &Tx, blank: Blank) -> Result<(), A
     ensures valid { IfErr result IsValidFault }
     ensures memory { result ≡ Err AppendFault.Memory →
         IsLockRefusal (append_refusal (config_of server.now) (state_of server.now) tx.now) }
-    ensures running { OnOk result (server.now.phase ≡ Phase.Running) }
+    ensures running { OnOk result ((state_of server.now).phase ≡ Phase.Running) }
     ensures room { OnOk result (length server.now.log < last_id) }
 {
     let mut steps = Steps::<L>::new(blank);
@@ -36,7 +36,7 @@ pub(crate) fn admit_uncounted(server: &Server, tx: &Tx) -> Result<(), AppendFaul
     ensures valid { IfErr result IsValidFault }
     ensures memory { result ≡ Err AppendFault.Memory →
         IsLockRefusal (append_refusal (config_of server.now) (state_of server.now) tx.now) }
-    ensures running { OnOk result (server.now.phase ≡ Phase.Running) }
+    ensures running { OnOk result ((state_of server.now).phase ≡ Phase.Running) }
     ensures room { OnOk result (length server.now.log < last_id) }
 {
     admit_with::<Brand>(server, tx, Blank::new(1))
@@ -49,7 +49,7 @@ pub fn append_uncounted(server: &mut Server, tx: Tx) -> Result<u64, AppendFault>
     ensures id { IfOk result (λ id. id ≡ length server.old.log + 1) }
     ensures after { OnOk result (state_of server.new ≡
         after_append (config_of server.old) (state_of server.old) tx) }
-    ensures setting { config_of server.new ≡ config_of server.old }
+    ensures config { config_of server.new ≡ config_of server.old }
     ensures refused { IfErr result
         (IsRefusedBy (append_refusal (config_of server.old) (state_of server.old) tx)) }
     ensures valid { IfErr result IsValidFault }

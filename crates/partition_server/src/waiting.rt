@@ -1,90 +1,124 @@
-ghost use Rattle.std.specs.Prelude.{◌≡◌, ◌≢◌, ◌≤◌, ℕ, [], map, drop, length, IfOk, OnErr};
-ghost use Rattle.proto_model.specs.Servers.{is_due};
-ghost use Rattle.partition_server.specs.Waits.{WaitInOrder};
+ghost use Rattle.std.specs.Prelude.{◌≡◌, ◌≢◌, ◌≤◌, ◌<◌, ◌-◌, ◌++◌, ◌∷◌, [], map, drop, take, length, slice_get, Some, IfOk, OnOk, OnErr};
+ghost use Rattle.proto_model.specs.Servers.{Waiting, is_due, waits_on};
+ghost use Rattle.partition_server.specs.Waits.{WaitUpTo};
 ghost use Rattle.partition_server.specs.Answers.{addressed};
 
+use indexmap::IndexMap;
 use proto_model::FromServer;
 use std::alloc::{AllocError, Global};
 use std::marker::Model;
 
-/// A client's request that waits for its record to be committed.
+/// Who asked, and the number of the request.
 #[derive(Clone, Copy)]
-pub struct Waiting {
-    id: u64,
+struct Asker {
     client: u64,
     request: u64,
 }
 
-impl Model for Waiting {
-    ghost use Rattle.proto_model.specs.Servers.{Waiting as WaitingRequest};
-
-    ghost Value = { WaitingRequest };
-
-    ghost view = { λ w. record { id = w.id; client = w.client; request = w.request } };
-
-    ghost inverse = { λ w. record { id = w.id; client = w.client; request = w.request } };
+/// The requests that wait for their records to be committed, in the order of the records' ids, of which none is left
+/// out.
+#[derive(Drop)]
+pub struct WaitingRequests {
+    // The id before the first one's.
+    before: u64,
+    by_id: IndexMap<u64, Asker>,
 }
 
-impl Waiting {
-    pub fn new(id: u64, client: u64, request: u64) -> Waiting
-        ensures { result ≡ record { id = id; client = client; request = request } }
+impl Model for WaitingRequests {
+    ghost use Rattle.std.specs.Prelude.{List};
+    ghost use Rattle.proto_model.specs.Servers.{Waiting};
+    ghost use Rattle.partition_server.specs.ById.{waiting_by, AreById};
+
+    ghost Value = { List Waiting };
+
+    ghost view = { waiting_by };
+
+    ghost invariant = { AreById };
+}
+
+impl WaitingRequests {
+    pub fn new(alloc: Global) -> WaitingRequests
+        ensures { result ≡ [] }
     {
-        Waiting {
-            id,
-            client,
-            request,
+        WaitingRequests {
+            before: 0,
+            by_id: IndexMap::new(alloc),
         }
     }
 
-    /// The id of the record that is to be committed.
-    pub fn id(&self) -> u64
-        ensures { result ≡ self.now.id }
+    pub fn clear(&mut self)
+        ensures { self.new ≡ [] }
     {
-        self.id
+        self.before = 0;
+        self.by_id.clear();
     }
 
-    pub fn client(&self) -> u64
-        ensures { result ≡ self.now.client }
+    /// Adds a request for the record after those of the others.
+    pub fn add(&mut self, id: u64, client: u64, request: u64) -> Result<(), AllocError>
+        requires some { 1 ≤ id }
+        requires next { WaitUpTo (id - 1) self.old }
+        ensures ok { OnOk result
+            (self.new ≡ self.old ++ record { id = id; client = client; request = request } ∷ []) }
+        ensures err { OnErr result (self.new ≡ self.old) }
     {
-        self.client
-    }
-
-    pub fn request(&self) -> u64
-        ensures { result ≡ self.now.request }
-    {
-        self.request
-    }
-}
-
-// The answers to the requests whose records are committed at a mark, each with its client's number. Since the ids rise,
-// these requests are the front.
-pub(crate) fn due(
-    alloc: Global,
-    waiting: &[Waiting],
-    mark: u64,
-) -> Result<Vec<(u64, FromServer)>, AllocError>
-    requires { (last : ℕ) × WaitInOrder 0 last waiting.now }
-    ensures ok { IfOk result (λ due. due.items ≡ map addressed (is_due mark waiting.now)) }
-    ensures count { IfOk result (λ due. length due.items ≡ length (is_due mark waiting.now)) }
-    ensures memory { OnErr result (is_due mark waiting.now ≢ []) }
-{
-    let mut due = Vec::new(alloc);
-    for request in waiting {
-        if request.id() > mark {
-            return Ok(due);
+        match self.by_id.insert(id, Asker { client, request }) {
+            Ok(_) => {}
+            Err(_) => return Err(AllocError),
         }
-        due.push((
-            request.client(),
-            FromServer::Committed(request.request(), request.id()),
-        ))?;
+        self.before = id - self.by_id.len() as u64;
+        Ok(())
     }
-    Ok(due)
-}
 
-// Drops so many requests at the front.
-pub(crate) fn drop_front(waiting: &mut Vec<Waiting>, count: usize)
-    requires { count ≤ length waiting.old.items }
-    ensures { waiting.new.items ≡ drop count waiting.old.items }
-{
-    waiting.drain(..count);
+    // How many requests are for records up to an id.
+    fn count_due(&self, mark: u64) -> u64
+        ensures front { is_due mark self.now ≡ take result self.now }
+        ensures rest { waits_on mark self.now ≡ drop result self.now }
+        ensures within { result ≤ length self.now }
+    {
+        mark.saturating_sub(self.before)
+            .min(self.by_id.len() as u64)
+    }
+
+    // The answer to the request at a place, once its record is committed.
+    fn answer(&self, place: u64) -> (u64, FromServer)
+        requires { place < length self.now }
+        ensures { (w : Waiting) → slice_get self.now place ≡ Some w → result ≡ addressed w }
+    {
+        let id = self.before + 1 + place;
+        match self.by_id.get(&id) {
+            Some(asker) => (asker.client, FromServer::Committed(asker.request, id)),
+            None => unreachable!(),
+        }
+    }
+
+    // Takes the first request out.
+    fn drop_first(&mut self)
+        requires { 0 < length self.old }
+        ensures { self.new ≡ drop 1 self.old }
+    {
+        let id = self.before + 1;
+        self.by_id.swap_remove(&id);
+        self.before = id;
+    }
+
+    /// The answers to the requests whose records are committed at a mark, each with its client's number.
+    pub fn due(&self, alloc: Global, mark: u64) -> Result<Vec<(u64, FromServer)>, AllocError>
+        ensures ok { IfOk result (λ due. due.items ≡ map addressed (is_due mark self.now)) }
+        ensures memory { OnErr result (is_due mark self.now ≢ []) }
+    {
+        let mut due = Vec::new(alloc);
+        for place in 0..self.count_due(mark) {
+            due.push(self.answer(place))?;
+        }
+        Ok(due)
+    }
+
+    // Takes the requests out whose records are committed at a mark.
+    pub fn settle(&mut self, mark: u64)
+        ensures { self.new ≡ waits_on mark self.old }
+    {
+        for _ in 0..self.count_due(mark) {
+            self.drop_first();
+        }
+    }
 }

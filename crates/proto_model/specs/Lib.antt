@@ -3,6 +3,10 @@ pub mod Quorums
 pub mod Choices
 pub mod Replicas
 pub mod Crashes
+pub mod Parts
+pub mod Held
+pub mod Damages
+pub mod Nodes
 pub mod Servers
 pub mod Sending
 pub mod Serving

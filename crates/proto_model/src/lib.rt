@@ -5,8 +5,13 @@ mod client_message;
 mod laws;
 mod message;
 mod refusal;
+mod replica;
 
 pub use client_message::{FromServer, ToServer};
-pub use laws::{every_receive_is_sane, every_step_is_sane, messages_are_valid, replies_are_valid};
+pub use laws::{
+    damaged_files_stand_for_nothing, every_receive_is_sane, every_step_is_sane,
+    files_stand_by_what_is_named, messages_are_valid, one_place_is_damaged, replies_are_valid,
+};
 pub use message::{FromNode, Phase, Report, Status, ToNode};
 pub use refusal::{BuildFault, ReadRefusal, Refusal};
+pub use replica::{Crashing, NodeFault, Replica};

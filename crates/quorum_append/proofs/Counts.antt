@@ -1,5 +1,5 @@
 -- Counts of nodes, and commit marks.
-use Rattle.std.proofs.Common.{◌≡◌, ℕ, zero, suc, ◌+◌, ◌-◌, ◌<◌, ◌≤◌, nat_le, ◌&&◌, ◌==◌, if◌then◌else◌, Bool, true, false, ◌⊎◌, inl, inr, List, [], ◌∷◌, refl, ap, ◌∙◌, arith}
+use Rattle.std.proofs.Common.{◌≡◌, ℕ, zero, suc, ◌+◌, ◌<◌, ◌≤◌, nat_le, ◌&&◌, ◌==◌, if◌then◌else◌, Bool, true, false, ◌⊎◌, inl, inr, List, [], ◌∷◌, refl, ap, ◌∙◌, arith}
 use Rattle.std.proofs.lemmas.Bool.Decides.{nat_tests}
 use Rattle.std.proofs.lemmas.Bool.{cases_lt, cases_eq}
 use Rattle.proto_model.specs.Quorums.{count, quorum, reached}
@@ -26,11 +26,7 @@ count-same p r (suc n) h =
     let here : p (suc n) ≡ r (suc n) = h (suc n) (omega arith) (omega arith) in
     rw (rest, here) refl
 
-pub count-next : (p : ℕ → Bool) (i : ℕ) → 1 ≤ i → count p i ≡ (if p i then 1 else 0) + count p (i - 1)
-count-next p zero h = absurd (omega arith)
-count-next p (suc i) h = let e : suc i - 1 ≡ i = omega arith in rw e refl
-
-none_counted : (p : ℕ → Bool) (n : ℕ) → ((j : ℕ) → 1 ≤ j → j ≤ n → p j ≡ false) → count p n ≡ 0
+pub none_counted : (p : ℕ → Bool) (n : ℕ) → ((j : ℕ) → 1 ≤ j → j ≤ n → p j ≡ false) → count p n ≡ 0
 none_counted p zero h = refl
 none_counted p (suc n) h =
     let here : p (suc n) ≡ false = h (suc n) (omega arith) (omega arith) in
@@ -142,13 +138,24 @@ found_by n reaches k false e none before = before (λ j less. elim (cases_eq j (
   | inr other ↦ none j (omega arith)
 ])
 
-mark_found : (n : ℕ) (reaches : ℕ → ℕ → Bool) (bound : ℕ) → ((j : ℕ) → bound < j → count (reaches j) n < quorum n) →
+-- no number above the bound is reached
+pub mark_found : (n : ℕ) (reaches : ℕ → ℕ → Bool) (bound : ℕ) → ((j : ℕ) → bound < j → count (reaches j) n < quorum n) →
     IsMark n reaches (reached n reaches bound)
 mark_found n reaches zero none = record {
   held = λ some. absurd (omega arith);
   most = λ k q. elim (cases_eq k 0) [ inl same ↦ omega arith | inr other ↦ absurd (let f = none k (omega arith) in omega (arith, f, q)) ];
 }
 mark_found n reaches (suc k) none = found_by n reaches k (nat_le (quorum n) (count (reaches (suc k)) n)) refl none (mark_found n reaches k)
+
+most_of_marks : (n : ℕ) (reaches : ℕ → ℕ → Bool) (a b : ℕ) → IsMark n reaches a → IsMark n reaches b → a ≤ b
+most_of_marks n reaches zero b h k = omega arith
+most_of_marks n reaches (suc a) b h k = k.most (suc a) (h.held (omega arith))
+
+pub one_mark : (n : ℕ) (reaches : ℕ → ℕ → Bool) (a b : ℕ) → IsMark n reaches a → IsMark n reaches b → a ≡ b
+one_mark n reaches a b h k =
+    let less = most_of_marks n reaches a b h k in
+    let more = most_of_marks n reaches b a k h in
+    omega (arith, less, more)
 
 below : (a : Bool) (k len : ℕ) → len < k → (a && nat_le k len) ≡ false
 below true k len h = grind (arith, nat_tests, h)

@@ -14,6 +14,19 @@ abbrev pub reaches : Option ℕ → ℕ → Bool
 reaches None k = false
 reaches (Some len) k = nat_le k len
 
+-- nothing acknowledged counts as the length 0
+abbrev pub or_zero : Option ℕ → ℕ
+or_zero None = 0
+or_zero (Some len) = len
+
+-- the greatest length that the node acknowledged, or 0
+abbrev pub length_kept : Kept → ℕ → ℕ
+length_kept kept node = or_zero (slice_index_or kept.lens node None)
+
+-- no node acknowledged more than this
+abbrev pub AreKeptWithin : ℕ → Kept → Type 0
+AreKeptWithin bound kept = (node : ℕ) → length_kept kept node ≤ bound
+
 -- whether the node acknowledged this length or more, by what is kept
 abbrev pub has_kept : Kept → ℕ → ℕ → Bool
 has_kept kept k node = reaches (slice_index_or kept.lens node None) k

@@ -1,7 +1,7 @@
-ghost use Rattle.std.specs.Prelude.{◌≡◌, ◌≤◌, ◌<◌, ◌∷◌, [], List, None, length, slice_index_or};
-ghost use Rattle.proto_model.specs.Quorums.{count, quorum};
+ghost use Rattle.std.specs.Prelude.{◌≡◌, ◌≤◌, ◌<◌, ◌∷◌, [], List, ℕ, None, length, slice_index_or};
+ghost use Rattle.proto_model.specs.Quorums.{count, quorum, reached};
 ghost use Rattle.quorum_append.specs.Acknowledgements.{Ack, IsCommitMark, has_acked};
-ghost use Rattle.quorum_append.specs.Kept.{Kept, AreKept, nothing_kept, kept_with, has_kept};
+ghost use Rattle.quorum_append.specs.Kept.{Kept, AreKept, AreKeptWithin, nothing_kept, kept_with, has_kept, length_kept};
 
 use std::marker::Model;
 
@@ -50,6 +50,17 @@ impl Acks {
         };
     }
 
+    /// The greatest length that a node acknowledged, or 0.
+    pub fn acked(&self, node: u8) -> u64
+        requires { node ≤ self.now.nodes }
+        ensures { result ≡ length_kept self.now node }
+    {
+        match self.lens[node as usize] {
+            Some(len) => len,
+            None => 0,
+        }
+    }
+
     // Whether a node acknowledged this length or more.
     fn has(&self, node: u8, k: u64) -> bool
         requires { node ≤ self.now.nodes }
@@ -78,7 +89,10 @@ impl Acks {
 
     /// The greatest length that a quorum acknowledged, or 0.
     pub fn mark(&self) -> u64
-        ensures { (acks : List Ack) → AreKept acks self.now → IsCommitMark self.now.nodes acks result }
+        ensures value { (bound : ℕ) → AreKeptWithin bound self.now →
+            result ≡ reached self.now.nodes (has_kept self.now) bound }
+        ensures of_all { (acks : List Ack) → AreKept acks self.now →
+            IsCommitMark self.now.nodes acks result }
     {
         let quorum = self.nodes / 2 + 1;
         let mut mark = 0;

@@ -9,7 +9,8 @@ use Rattle.std.proofs.lemmas.Slice.Eq.{bytes_eq-Decides}
 use Rattle.std.proofs.Math.Seq.{take-add}
 use Rattle.sha2.specs.Sha256.{sha256, digest_bytes, final_hash, initial_hash_256}
 use Rattle.tx_model.specs.Spelling.{check_of, with_length, frame}
-use Rattle.record_frame.specs.Reading.{number, length_in, body_in, frame_at}
+use Rattle.tx_model.specs.Reading.{number, length_in, body_in}
+use Rattle.record_frame.specs.Reading.{frame_at}
 use Rattle.record_frame.specs.Faults.{IsRight}
 use Rattle.record_frame.proofs.Parts.{IsBytes, number-spelled_4}
 

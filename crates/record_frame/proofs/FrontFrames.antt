@@ -14,13 +14,15 @@ use Rattle.tx_model.specs.Spelling.{record_body, meta_body, IsMeta, SpellsRecord
 use Rattle.record_frame.specs.declared.fault.FrameFault.{FrameFault}
 use Rattle.record_frame.specs.declared.fault.FrameFault.TheVariants.{Short, Bad, Memory}
 use Rattle.record_frame.specs.Faults.{IsRecordLength, IsMetaLength, IsWhole}
-use Rattle.record_frame.specs.Reading.{number, Builds, length_in, body_in, value_at, read_length, is_body, record_of, record_in, meta_in, is_record_length, is_meta_length, record_at, meta_at, Checks}
-use Rattle.record_frame.specs.Framing.{record_len, framed_record, meta_len, framed_meta}
+use Rattle.tx_model.specs.Reading.{number, length_in, body_in, is_body, record_of, record_in, meta_in, is_record_length, is_meta_length}
+use Rattle.record_frame.specs.Reading.{Builds, value_at, read_length, record_at, meta_at, Checks}
+use Rattle.tx_model.specs.Framing.{record_len, framed_record, meta_len, framed_meta}
 use Rattle.record_frame.proofs.Parts.{IsBytes}
 use Rattle.record_frame.proofs.Frames.{length-body_in}
 use Rattle.record_frame.proofs.Values.{IsFormat, Row, unknown, unfit, part, wrong, no_body, value, row, value_at-alone, short_exactly, tested, done}
 use Rattle.record_frame.proofs.Records.{record_format, record_at-read, record_at-spelled}
 use Rattle.record_frame.proofs.Metas.{meta_format, meta_at-read}
+use Rattle.record_frame.proofs.Lengths.{record_len-read, meta_len-read}
 
 module _ {V : Type 0} (IsLength : ℕ → Type 0) (IsValid : V → Type 0) (spelling : V → List ℕ) (test : ℕ → Bool) (value_of : List ℕ → Option V) (format : IsFormat IsLength IsValid spelling test value_of) where
   abbrev at : List ℕ → Result (V × ℕ) FrameFault
@@ -103,37 +105,35 @@ record_in-value : (body : List ℕ) (r : Record) → record_in body ≡ Some r �
 record_in-value body r e = (tested (is_body body) (record_of body) r e).1
 
 pub record_len-within : (bytes : List ℕ) → record_len bytes ≤ length bytes
-unfolding record_len
-record_len-within bytes = within IsRecordLength IsRecord record_body is_record_length record_in record_format bytes
+record_len-within bytes = subst (λ (n : ℕ). n ≤ length bytes) (sym (record_len-read bytes)) (within IsRecordLength IsRecord record_body is_record_length record_in record_format bytes)
 
 -- the frame alone counts, whatever follows it
+same_record : (bytes other : List ℕ) → 0 < record_len bytes → record_len bytes ≤ length other → take (record_len bytes) other ≡ take (record_len bytes) bytes → record_at other ≡ record_at bytes
+same_record bytes other some enough same =
+    let n = record_len-read bytes in
+    alike IsRecordLength IsRecord record_body is_record_length record_in record_format bytes other (subst (λ (k : ℕ). 0 < k) n some) (subst (λ (k : ℕ). k ≤ length other) n enough) (subst (λ (k : ℕ). take k other ≡ take k bytes) n same)
+
 pub record_len-alike : (bytes other : List ℕ) → 0 < record_len bytes → record_len bytes ≤ length other → take (record_len bytes) other ≡ take (record_len bytes) bytes → record_len other ≡ record_len bytes
-unfolding record_len
-record_len-alike bytes other some enough same = ap read_length (alike IsRecordLength IsRecord record_body is_record_length record_in record_format bytes other some enough same)
+record_len-alike bytes other some enough same = record_len-read other ∙ ap read_length (same_record bytes other some enough same) ∙ sym (record_len-read bytes)
 
 -- what was read at the front
 pub record_at-len : (bytes : List ℕ) (x : Record × ℕ) → record_at bytes ≡ Ok x → (record_len bytes ≡ x.1) × (framed_record bytes ≡ x.0) × (12 < x.1)
-unfolding record_len framed_record
+unfolding framed_record
 record_at-len bytes x is =
     let found = holds IsRecordLength IsRecord record_body is_record_length record_in record_format bytes x is in
     let long : 47 ≤ length_in bytes = found.whole.in_range.0 in
-    (ap read_length is, record_in-value (body_in bytes) x.0 found.value, omega (arith, found.len))
+    (record_len-read bytes ∙ ap read_length is, record_in-value (body_in bytes) x.0 found.value, omega (arith, found.len))
 
 pub record_at-found : (bytes : List ℕ) → 0 < record_len bytes → record_at bytes ≡ Ok (framed_record bytes, record_len bytes)
-unfolding record_len
 record_at-found bytes some =
-    let found = read IsRecordLength IsRecord record_body is_record_length record_in record_format (record_at bytes) some in
+    let found = read IsRecordLength IsRecord record_body is_record_length record_in record_format (record_at bytes) (subst (λ (k : ℕ). 0 < k) (record_len-read bytes) some) in
     let parts = record_at-len bytes found.0 found.1 in
     let n : record_len bytes ≡ found.0.1 = parts.0 in
     let r : framed_record bytes ≡ found.0.0 = parts.1 in
     found.1 ∙ ap (λ (k : ℕ). done (found.0.0, k)) (sym n) ∙ ap (λ (s : Record). done (s, record_len bytes)) (sym r)
 
-alike_record : (bytes other : List ℕ) → 0 < record_len bytes → record_len bytes ≤ length other → take (record_len bytes) other ≡ take (record_len bytes) bytes → record_at other ≡ record_at bytes
-unfolding record_len
-alike_record bytes other some enough same = alike IsRecordLength IsRecord record_body is_record_length record_in record_format bytes other some enough same
-
 pub framed_record-alike : (bytes other : List ℕ) → 0 < record_len bytes → record_len bytes ≤ length other → take (record_len bytes) other ≡ take (record_len bytes) bytes → framed_record other ≡ framed_record bytes
-framed_record-alike bytes other some enough same = (record_at-len other (framed_record bytes, record_len bytes) (alike_record bytes other some enough same ∙ record_at-found bytes some)).1
+framed_record-alike bytes other some enough same = (record_at-len other (framed_record bytes, record_len bytes) (same_record bytes other some enough same ∙ record_at-found bytes some)).1
 
 -- a spelling is a whole and right frame of its record, whatever follows
 pub spelling-framed : (f rest : List ℕ) (r : Record) → SpellsRecord f r → (record_len (f ++ rest) ≡ length f) × (framed_record (f ++ rest) ≡ r) × (12 < length f)
@@ -144,8 +144,7 @@ pub framed-spells : (bytes : List ℕ) → 0 < record_len bytes → IsBytes byte
 framed-spells bytes some fits = (record_at-spelled bytes (framed_record bytes, record_len bytes) (record_at-found bytes some) fits).spelled
 
 record_at-none : (bytes : List ℕ) (e : FrameFault) → record_at bytes ≡ Err e → record_len bytes ≡ 0
-unfolding record_len
-record_at-none bytes e is = ap read_length is
+record_at-none bytes e is = record_len-read bytes ∙ ap read_length is
 
 -- what a check without memory answers
 abbrev pub IsLenOf : List ℕ → Result ℕ FrameFault → Type 0
@@ -188,43 +187,42 @@ framed_id-at bytes some =
     (id_at (length_in bytes) bytes (omega (arith, found.whole.in_range.0)), omega (arith, whole, found.whole.in_range.0))
 
 pub record-stays : (bytes rest : List ℕ) (e : FrameFault) → record_at bytes ≡ Err e → e ≢ Short → record_len (bytes ++ rest) ≡ 0
-unfolding record_len
-record-stays bytes rest e is other = stays IsRecordLength IsRecord record_body is_record_length record_in record_format bytes rest e is other
+record-stays bytes rest e is other = record_len-read (bytes ++ rest) ∙ stays IsRecordLength IsRecord record_body is_record_length record_in record_format bytes rest e is other
 
 -- ---- meta entries
 
 pub meta_len-within : (bytes : List ℕ) → meta_len bytes ≤ length bytes
-unfolding meta_len
-meta_len-within bytes = within IsMetaLength IsMeta meta_body is_meta_length meta_in meta_format bytes
+meta_len-within bytes = subst (λ (n : ℕ). n ≤ length bytes) (sym (meta_len-read bytes)) (within IsMetaLength IsMeta meta_body is_meta_length meta_in meta_format bytes)
+
+same_meta : (bytes other : List ℕ) → 0 < meta_len bytes → meta_len bytes ≤ length other → take (meta_len bytes) other ≡ take (meta_len bytes) bytes → meta_at other ≡ meta_at bytes
+same_meta bytes other some enough same =
+    let n = meta_len-read bytes in
+    alike IsMetaLength IsMeta meta_body is_meta_length meta_in meta_format bytes other (subst (λ (k : ℕ). 0 < k) n some) (subst (λ (k : ℕ). k ≤ length other) n enough) (subst (λ (k : ℕ). take k other ≡ take k bytes) n same)
 
 pub meta_len-alike : (bytes other : List ℕ) → 0 < meta_len bytes → meta_len bytes ≤ length other → take (meta_len bytes) other ≡ take (meta_len bytes) bytes → meta_len other ≡ meta_len bytes
-unfolding meta_len
-meta_len-alike bytes other some enough same = ap read_length (alike IsMetaLength IsMeta meta_body is_meta_length meta_in meta_format bytes other some enough same)
+meta_len-alike bytes other some enough same = meta_len-read other ∙ ap read_length (same_meta bytes other some enough same) ∙ sym (meta_len-read bytes)
 
 pub meta_at-len : (bytes : List ℕ) (x : Meta × ℕ) → meta_at bytes ≡ Ok x → (meta_len bytes ≡ x.1) × (framed_meta bytes ≡ x.0) × (12 < x.1)
-unfolding meta_len framed_meta
+unfolding framed_meta
 meta_at-len bytes x is =
     let found = holds IsMetaLength IsMeta meta_body is_meta_length meta_in meta_format bytes x is in
     let long : 12 < 12 + length_in bytes = elim found.whole.in_range [ inl nine ↦ omega arith | inr more ↦ elim more [ inl thirteen ↦ omega arith | inr most ↦ omega arith ] ] in
-    (ap read_length is, ap (λ (o : Option Meta). unwrap_or o (Value 0)) found.value, omega (arith, found.len))
+    (meta_len-read bytes ∙ ap read_length is, ap (λ (o : Option Meta). unwrap_or o (Value 0)) found.value, omega (arith, found.len))
 
 pub meta-spelling-framed : (f rest : List ℕ) (m : Meta) → SpellsMeta f m → (meta_len (f ++ rest) ≡ length f) × (framed_meta (f ++ rest) ≡ m) × (12 < length f)
 meta-spelling-framed f rest m is = let parts = meta_at-len (f ++ rest) (m, length f) (meta_at-read m f rest is) in (parts.0, parts.1, parts.2)
 
 pub framed_meta-alike : (bytes other : List ℕ) → 0 < meta_len bytes → meta_len bytes ≤ length other → take (meta_len bytes) other ≡ take (meta_len bytes) bytes → framed_meta other ≡ framed_meta bytes
-unfolding meta_len
 framed_meta-alike bytes other some enough same =
-    let found = read IsMetaLength IsMeta meta_body is_meta_length meta_in meta_format (meta_at bytes) some in
-    let there = alike IsMetaLength IsMeta meta_body is_meta_length meta_in meta_format bytes other some enough same in
+    let found = read IsMetaLength IsMeta meta_body is_meta_length meta_in meta_format (meta_at bytes) (subst (λ (k : ℕ). 0 < k) (meta_len-read bytes) some) in
+    let there = same_meta bytes other some enough same in
     (meta_at-len other found.0 (there ∙ found.1)).1 ∙ sym (meta_at-len bytes found.0 found.1).1
 
 -- what a reading answers
 pub meta-framed : (result : Result (Meta × ℕ) FrameFault) (bytes : List ℕ) → result ≡ meta_at bytes
     → MatchResult result (λ x. (x.0 ≡ framed_meta bytes) × (x.1 ≡ meta_len bytes) × (0 < x.1)) (λ e. meta_len bytes ≡ 0)
-unfolding meta_len
 meta-framed (Ok x) bytes same = let parts = meta_at-len bytes x (sym same) in (sym parts.1, sym parts.0, omega (arith, parts.2))
-meta-framed (Err e) bytes same = ap read_length (sym same)
+meta-framed (Err e) bytes same = meta_len-read bytes ∙ ap read_length (sym same)
 
 pub meta-stays : (bytes rest : List ℕ) (e : FrameFault) → meta_at bytes ≡ Err e → e ≢ Short → meta_len (bytes ++ rest) ≡ 0
-unfolding meta_len
-meta-stays bytes rest e is other = stays IsMetaLength IsMeta meta_body is_meta_length meta_in meta_format bytes rest e is other
+meta-stays bytes rest e is other = meta_len-read (bytes ++ rest) ∙ stays IsMetaLength IsMeta meta_body is_meta_length meta_in meta_format bytes rest e is other

@@ -3,6 +3,7 @@ pub mod Merges
 pub mod Parts
 pub mod Frames
 pub mod Values
+pub mod Lengths
 pub mod Records
 pub mod Metas
 pub mod Results

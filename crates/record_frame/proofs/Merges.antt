@@ -5,7 +5,7 @@ use Rattle.std.specs.Ordering.{nat_cmp}
 use Rattle.std.specs.Cmp.Lexicographic.{slice_cmp}
 use Rattle.tx_model.proofs.Merging.{IsLess, IsMerge, merge-less, merge-greater, merge-equal, merge-no_reads, merge-no_writes}
 use Rattle.tx_model.specs.Transactions.{are_apart}
-use Rattle.record_frame.specs.Reading.{is_name_at, name_at, after_name, are_names, names_of}
+use Rattle.tx_model.specs.Reading.{is_name_at, name_at, after_name, are_names, names_of}
 use Rattle.record_frame.proofs.Names.{is_good, names_of-next, names-rise}
 
 -- this many names that rise stand at the front

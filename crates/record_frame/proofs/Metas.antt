@@ -9,7 +9,8 @@ use Rattle.tx_model.specs.declared.meta.Meta.{Meta}
 use Rattle.tx_model.specs.declared.meta.Meta.TheVariants.{Promise, Adopt, Low, Roll, Value}
 use Rattle.tx_model.specs.Spelling.{meta_body, IsMeta, IsNextPlace, SpellsMetaBody, SpellsMeta}
 use Rattle.record_frame.specs.declared.fault.FrameFault.TheVariants.{Short, Bad, Memory}
-use Rattle.record_frame.specs.Reading.{number, is_meta_length, is_place, is_next_place, is_count, promise_in, low_in, value_in, one_number, is_roll, roll_of, roll_in, is_adopt, adopt_of, adopt_in, meta_in, meta_at, BeginsWith}
+use Rattle.tx_model.specs.Reading.{number, is_meta_length, is_place, is_next_place, is_count, promise_in, low_in, value_in, one_number, is_roll, roll_of, roll_in, is_adopt, adopt_of, adopt_in, meta_in}
+use Rattle.record_frame.specs.Reading.{meta_at, BeginsWith}
 use Rattle.record_frame.specs.Faults.{IsMetaLength, IsMetaBody, IsShort, IsBadAt}
 use Rattle.record_frame.proofs.Names.{and_2}
 use Rattle.record_frame.proofs.Parts.{IsBytes, front, split_8, split_4, number-below_4, place-tells, place-passes}

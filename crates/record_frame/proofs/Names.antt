@@ -5,7 +5,7 @@ use Rattle.std.proofs.lemmas.Bool.{ltb-true, leb-true, le-leb, lt-ltb}
 use Rattle.std.proofs.lemmas.List.{take_at, drop_at, length-take}
 use Rattle.tx_model.specs.Transactions.{IsName, is_before, RiseFrom}
 use Rattle.tx_model.specs.Spelling.{spelled_names}
-use Rattle.record_frame.specs.Reading.{is_name_at, name_at, after_name, are_names, names_of, past_names}
+use Rattle.tx_model.specs.Reading.{is_name_at, name_at, after_name, are_names, names_of, past_names}
 
 pub are_names-next : (last : List ℕ) (n i : ℕ) (bytes : List ℕ) → i < n → are_names last (n - i) bytes ≡ (is_name_at bytes && (is_before last (name_at bytes) && are_names (name_at bytes) (n - (i + 1)) (after_name bytes)))
 unfolding are_names

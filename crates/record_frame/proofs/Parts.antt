@@ -10,7 +10,7 @@ use Rattle.tx_model.specs.declared.record.Record.{Record}
 use Rattle.tx_model.specs.Transactions.{Transaction, IsTransaction, RiseFrom, are_apart}
 use Rattle.tx_model.specs.Records.{IsPlace, IsRecord}
 use Rattle.tx_model.specs.Spelling.{spelled_names, spelled_locks, spelled_transaction, record_body, SpellsRecordBody}
-use Rattle.record_frame.specs.Reading.{number, are_names, names_of, past_names, reads_of, after_reads, writes_of, after_lists, are_lists, is_payload, is_transaction, transaction_of, is_place, is_body, record_of}
+use Rattle.tx_model.specs.Reading.{number, are_names, names_of, past_names, reads_of, after_reads, writes_of, after_lists, are_lists, is_payload, is_transaction, transaction_of, is_place, is_body, record_of}
 use Rattle.record_frame.proofs.Names.{and_2, names-rise, names-spelled, length-names_of, names-read}
 
 -- ---- bytes

@@ -6,7 +6,8 @@ use Rattle.tx_model.specs.declared.record.Record.{Record}
 use Rattle.tx_model.specs.Records.{IsRecord}
 use Rattle.tx_model.specs.Spelling.{record_body, SpellsRecordBody, SpellsRecord}
 use Rattle.record_frame.specs.declared.fault.FrameFault.TheVariants.{Short, Bad, Memory}
-use Rattle.record_frame.specs.Reading.{is_record_length, is_body, record_of, record_in, record_at, BeginsWith}
+use Rattle.tx_model.specs.Reading.{is_record_length, is_body, record_of, record_in}
+use Rattle.record_frame.specs.Reading.{record_at, BeginsWith}
 use Rattle.record_frame.specs.Faults.{IsRecordLength, IsRecordBody, IsShort, IsBadAt}
 use Rattle.record_frame.proofs.Names.{and_2}
 use Rattle.record_frame.proofs.Parts.{IsBytes, record-spelled, record-read, record-length}

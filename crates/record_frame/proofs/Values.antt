@@ -9,7 +9,8 @@ use Rattle.std.proofs.lemmas.Slice.Eq.{bytes_eq-Decides}
 use Rattle.tx_model.specs.Spelling.{Spells, check_of, frame}
 use Rattle.record_frame.specs.declared.fault.FrameFault.{FrameFault}
 use Rattle.record_frame.specs.declared.fault.FrameFault.TheVariants.{Short, Bad, Memory}
-use Rattle.record_frame.specs.Reading.{number, length_in, body_in, frame_at, with_frame_length, if_framed, value_at, BeginsWith}
+use Rattle.tx_model.specs.Reading.{number, length_in, body_in}
+use Rattle.record_frame.specs.Reading.{frame_at, with_frame_length, if_framed, value_at, BeginsWith}
 use Rattle.record_frame.specs.Faults.{IsShort, IsWhole, IsRight, IsBadAt}
 use Rattle.record_frame.proofs.Parts.{IsBytes, IsBytes-take, IsBytes-drop}
 use Rattle.record_frame.proofs.Frames.{length-body_in, frame-spelled, frame-read, length-frame, chosen}

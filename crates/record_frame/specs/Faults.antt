@@ -3,7 +3,8 @@ use Rattle.std.specs.Prelude.{◌≡◌, ℕ, ◌+◌, ◌<◌, ◌≤◌, ◌�
 use Rattle.tx_model.specs.declared.record.Record.{Record}
 use Rattle.tx_model.specs.declared.meta.Meta.{Meta}
 use Rattle.tx_model.specs.Spelling.{check_of, SpellsRecord, SpellsRecordBody, SpellsMetaBody}
-use Rattle.record_frame.specs.Reading.{length_in, body_in, BeginsWith}
+use Rattle.tx_model.specs.Reading.{length_in, body_in}
+use Rattle.record_frame.specs.Reading.{BeginsWith}
 
 -- the lengths that bodies have
 abbrev pub IsRecordLength : ℕ → Type 0

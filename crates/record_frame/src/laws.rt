@@ -4,7 +4,7 @@ ghost use Rattle.tx_model.specs.declared.record.Record.{Record};
 ghost use Rattle.tx_model.specs.declared.meta.Meta.{Meta};
 ghost use Rattle.tx_model.specs.Spelling.{SpellsRecord, SpellsMeta};
 ghost use Rattle.record_frame.specs.Reading.{record_at, meta_at};
-ghost use Rattle.record_frame.specs.Framing.{record_len, framed_record, meta_len, framed_meta};
+ghost use Rattle.tx_model.specs.Framing.{record_len, framed_record, meta_len, framed_meta};
 
 /// A record has one spelling, and none begins the spelling of another record.
 pub fn records_have_one_spelling()

@@ -2,7 +2,7 @@
 ghost use Rattle.std.specs.Prelude.{◌≡◌, ◌↔◌, ◌+◌, ◌≤◌, [], true, false, length, IsTrue, IfSome, IfNone};
 ghost use Rattle.std.specs.Int.{w32, w64};
 ghost use Rattle.tx_model.specs.Transactions.{are_apart, is_before};
-ghost use Rattle.record_frame.specs.Reading.{number, is_name_at, name_at, after_name, are_names, names_of, past_names, are_lists, after_lists, is_payload, is_transaction, is_body};
+ghost use Rattle.tx_model.specs.Reading.{number, is_name_at, name_at, after_name, are_names, names_of, past_names, are_lists, after_lists, is_payload, is_transaction, is_body};
 ghost use Rattle.record_frame.specs.Faults.{IsRecordBody};
 
 use crate::ranges::is_place;
@@ -104,7 +104,7 @@ fn are_apart(mut reads: u8, mut read_bytes: &[u8], mut writes: u8, mut write_byt
 }
 
 /// The bytes after both lists of locks at the front, where they are in form.
-#[tactic(auto, unfolding(crate::specs::Reading::are_lists, crate::specs::Reading::after_lists))]
+#[tactic(auto, unfolding(tx_model::specs::Reading::are_lists, tx_model::specs::Reading::after_lists))]
 pub fn after_lists(bytes: &[u8]) -> Option<&[u8]>
     ensures none { IfNone result (are_lists bytes.now ≡ false) }
     ensures some { IfSome result
@@ -139,7 +139,7 @@ fn is_payload(bytes: &[u8]) -> bool
 }
 
 /// Whether the bytes are those of a transaction, and nothing more.
-#[tactic(auto, unfolding(crate::specs::Reading::is_transaction))]
+#[tactic(auto, unfolding(tx_model::specs::Reading::is_transaction))]
 pub fn is_transaction(bytes: &[u8]) -> bool
     ensures { result ≡ is_transaction bytes.now }
 {
@@ -153,7 +153,7 @@ pub fn is_transaction(bytes: &[u8]) -> bool
     }
 }
 
-#[tactic(auto, unfolding(crate::specs::Reading::is_body))]
+#[tactic(auto, unfolding(tx_model::specs::Reading::is_body))]
 fn has_form(bytes: &[u8]) -> bool
     ensures { result ≡ is_body bytes.now }
 {

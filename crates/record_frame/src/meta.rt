@@ -3,8 +3,9 @@ ghost use Rattle.std.specs.Prelude.{◌≡◌, ◌≢◌, ◌↔◌, ◌+◌, �
 ghost use Rattle.std.specs.Int.{w64, to_be_bytes};
 ghost use Rattle.tx_model.specs.declared.meta.Meta.{Meta as MetaValue};
 ghost use Rattle.tx_model.specs.Spelling.{meta_body, meta_frame, IsMeta, SpellsMeta};
-ghost use Rattle.record_frame.specs.Reading.{one_number, roll_in, adopt_in, meta_in, meta_at, BeginsWith};
-ghost use Rattle.record_frame.specs.Framing.{meta_len, framed_meta};
+ghost use Rattle.tx_model.specs.Reading.{one_number, roll_in, adopt_in, meta_in};
+ghost use Rattle.record_frame.specs.Reading.{meta_at, BeginsWith};
+ghost use Rattle.tx_model.specs.Framing.{meta_len, framed_meta};
 ghost use Rattle.record_frame.specs.Faults.{IsMetaLength, IsMetaBody, IsShort, IsBadAt};
 
 use crate::fault::FrameFault;
@@ -57,7 +58,7 @@ fn adopt_in(body: &[u8]) -> Option<Meta>
 }
 
 /// The entry whose body the bytes are.
-#[tactic(auto, unfolding(crate::specs::Reading::meta_in))]
+#[tactic(auto, unfolding(tx_model::specs::Reading::meta_in))]
 fn entry_in(body: &[u8]) -> Option<Meta>
     ensures { result ≡ meta_in body.now }
 {

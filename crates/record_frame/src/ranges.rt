@@ -2,7 +2,7 @@
 ghost use Rattle.std.specs.Prelude.{◌≡◌, ◌↔◌, IsTrue};
 ghost use Rattle.tx_model.specs.Records.{IsPlace};
 ghost use Rattle.tx_model.specs.Spelling.{IsNextPlace, IsCount};
-ghost use Rattle.record_frame.specs.Reading.{is_place, is_next_place, is_count};
+ghost use Rattle.tx_model.specs.Reading.{is_place, is_next_place, is_count};
 
 use tx_model::MAX_PLACE;
 

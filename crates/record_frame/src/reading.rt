@@ -2,8 +2,9 @@
 ghost use Rattle.std.specs.Prelude.{◌≡◌, ◌≢◌, ◌↔◌, ◌<◌, ◌++◌, ℕ, List, [], true, length, Ok, IfOk, IfErr, MatchResult};
 ghost use Rattle.tx_model.specs.declared.record.Record.{Record as RecordValue};
 ghost use Rattle.tx_model.specs.Spelling.{SpellsRecord, SpellsRecordBody};
-ghost use Rattle.record_frame.specs.Reading.{are_names, names_of, past_names, are_lists, reads_of, writes_of, after_lists, is_transaction, transaction_of, is_body, record_of, is_record_length, frame_at, record_at, IsOfBytes, BeginsWith, Checks, Builds, OkOrMemory};
-ghost use Rattle.record_frame.specs.Framing.{record_len, framed_record};
+ghost use Rattle.tx_model.specs.Reading.{are_names, names_of, past_names, are_lists, reads_of, writes_of, after_lists, is_transaction, transaction_of, is_body, record_of, is_record_length};
+ghost use Rattle.record_frame.specs.Reading.{frame_at, record_at, IsOfBytes, BeginsWith, Checks, Builds, OkOrMemory};
+ghost use Rattle.tx_model.specs.Framing.{record_len, framed_record};
 ghost use Rattle.record_frame.specs.Faults.{IsRecordLength, IsRecordBody, IsShort, IsBadAt, BeginsWithRecord};
 
 use crate::fault::FrameFault;
@@ -29,7 +30,7 @@ fn locks_in(alloc: Global, count: u8, bytes: &[u8]) -> Result<(Vec<Lock>, &[u8])
 }
 
 /// The read locks and the write locks at the front, and the bytes after them.
-#[tactic(auto, using(crate::proofs::Parts::are_lists_tell), unfolding(crate::specs::Reading::after_lists))]
+#[tactic(auto, using(crate::proofs::Parts::are_lists_tell), unfolding(tx_model::specs::Reading::after_lists))]
 pub fn locks_of(alloc: Global, bytes: &[u8]) -> Result<(Vec<Lock>, Vec<Lock>, &[u8]), AllocError>
     requires { are_lists bytes.now ≡ true }
     ensures reads { IfOk result (λ x. x.0.items ≡ reads_of bytes.now) }
@@ -43,7 +44,7 @@ pub fn locks_of(alloc: Global, bytes: &[u8]) -> Result<(Vec<Lock>, Vec<Lock>, &[
 }
 
 /// The transaction that the bytes spell.
-#[tactic(auto, using(crate::proofs::Parts::is_transaction_tells), unfolding(crate::specs::Reading::transaction_of))]
+#[tactic(auto, using(crate::proofs::Parts::is_transaction_tells), unfolding(tx_model::specs::Reading::transaction_of))]
 pub fn transaction_of(alloc: Global, bytes: &[u8]) -> Result<Tx, AllocError>
     requires { is_transaction bytes.now ≡ true }
     ensures { IfOk result (λ tx. tx ≡ transaction_of bytes.now) }
@@ -59,7 +60,7 @@ pub fn transaction_of(alloc: Global, bytes: &[u8]) -> Result<Tx, AllocError>
     Ok(tx)
 }
 
-#[tactic(auto, using(crate::proofs::Parts::is_body_tells), unfolding(crate::specs::Reading::record_of))]
+#[tactic(auto, using(crate::proofs::Parts::is_body_tells), unfolding(tx_model::specs::Reading::record_of))]
 fn build(alloc: Global, body: &[u8]) -> Result<Record, AllocError>
     requires { is_body body.now ≡ true }
     ensures { IfOk result (λ r. r ≡ record_of body.now) }

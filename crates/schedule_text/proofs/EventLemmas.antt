@@ -9,7 +9,8 @@ use Rattle.tx_model.specs.Applications.{IsKey}
 use Rattle.net_model.specs.declared.event.Event.{Event}
 use Rattle.net_model.specs.declared.event.Event.TheVariants.{Read, Cas, Waste, Tick, Next, Skip, Deliver, Tear, Crash, Restart, Reboot, Append, Ask, Flush, Show, Server, App, Log, Dump}
 use Rattle.net_model.specs.declared.cluster.Cluster.{Cluster}
-use Rattle.schedule_text.specs.Events.{spelling, keys_spelling, ops_word, AreOps, HasForm, IsReadEvent, SpellsEvent, SpellsCluster, cluster_spelling}
+use Rattle.schedule_text.specs.Lists.{keys_spelling, ops_word, AreOps}
+use Rattle.schedule_text.specs.Events.{spelling, HasForm, IsReadEvent, SpellsEvent, SpellsCluster, cluster_spelling}
 use Rattle.net_model.specs.Events.{IsInRange}
 use Rattle.net_model.specs.Clusters.{IsClusterInRange}
 use Rattle.schedule_text.specs.declared.parse.LineFault.{LineFault}
@@ -18,7 +19,7 @@ use Rattle.schedule_text.specs.Parts.{IsAppend, IsNoAppend}
 use Rattle.net_model.specs.Clusters.{IsWithin}
 use Rattle.schedule_text.specs.Words.{HasNoSpace}
 use Rattle.schedule_text.proofs.KeyLemmas.{HasNoSpace-keys, keys_spelling_injective}
-use Rattle.schedule_text.proofs.AppendLemmas.{ops_word_injective}
+use Rattle.schedule_text.proofs.OpsLemmas.{ops_word_injective}
 use Rattle.schedule_text.proofs.WordLemmas.{rest_same, parts_unique, HasNoSpace-decimal}
 
 -- ---- a text spells one event: the first words differ, and then what stands behind them

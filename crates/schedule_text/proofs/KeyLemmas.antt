@@ -10,8 +10,7 @@ use Rattle.std.proofs.lemmas.List.Recursion.{same_from_clauses}
 use Rattle.std.proofs.lemmas.List.Splits.{slice_split_none, slice_split_at, length-slice_split, join_with_byte-slice_split}
 use Rattle.tx_model.specs.Applications.{IsKey, is_key, is_key_byte, are_key_bytes}
 use Rattle.tx_model.specs.Transactions.{IsName}
-use Rattle.schedule_text.specs.Events.{next_key, keys_spelling}
-use Rattle.schedule_text.specs.Parts.{SpellsKeys, IsKeysWord}
+use Rattle.schedule_text.specs.Lists.{next_key, keys_spelling, SpellsKeys, IsKeysWord}
 use Rattle.schedule_text.specs.Words.{HasNoSpace}
 
 -- ---- one key
@@ -132,7 +131,7 @@ HasNoSpace-keys_word word is = subst HasNoSpace (sym is.1.text) (HasNoSpace-keys
 -- ---- one word is one list of keys
 
 -- a hyphen is no key, nor does a list of keys begin with one
-no_hyphen : (key : List ℕ) (more : List ℕ) → IsKey key → codes "-" ≡ key ++ more → ⊥
+pub no_hyphen : (key : List ℕ) (more : List ℕ) → IsKey key → codes "-" ≡ key ++ more → ⊥
 no_hyphen [] more is same = let some = is.some in omega arith
 no_hyphen (b ∷ key) more is same =
     let range = key_byte_range b (and_parts (is_key_byte b) (are_key_bytes key) is.bytes).0 in

@@ -1,5 +1,17 @@
 pub mod WordLemmas
 pub mod KeyLemmas
+pub mod OpsLemmas
+pub mod NumberFronts
+pub mod ListFronts
+pub mod FormLemmas
+pub mod SomeLemmas
+pub mod FoundLemmas
+pub mod PlaceLemmas
+pub mod ExactLemmas
+pub mod BuildLemmas
+pub mod TableLemmas
+pub mod RangeLemmas
+pub mod LawLemmas
 pub mod AppendLemmas
 pub mod EventLemmas
 pub mod PrintLemmas

@@ -1,10 +1,11 @@
 -- The lines of a schedule: which text spells which event. A text is an event where it equals the event's one spelling.
-use Rattle.std.specs.Prelude.{◌≡◌, ◌≢◌, ℕ, ◌<◌, ◌≤◌, ◌^◌, List, [], ◌∷◌, ◌++◌, codes, decimal, flat_map, ⊤}
+use Rattle.std.specs.Prelude.{◌≡◌, ℕ, ◌<◌, ◌^◌, List, ◌∷◌, ◌++◌, codes, decimal, ⊤}
 use Rattle.std.specs.List.{AllByRecursion}
 use Rattle.tx_model.specs.Applications.{IsKey}
 use Rattle.net_model.specs.declared.event.Event.{Event}
 use Rattle.net_model.specs.declared.event.Event.TheVariants.{Read, Cas, Waste, Tick, Next, Skip, Deliver, Tear, Crash, Restart, Reboot, Append, Ask, Flush, Show, Server, App, Log, Dump}
 use Rattle.net_model.specs.declared.cluster.Cluster.{Cluster}
+use Rattle.schedule_text.specs.Lists.{keys_spelling, ops_word, AreOps}
 
 -- ---- the first line
 
@@ -14,31 +15,6 @@ cluster_spelling c =
 
 abbrev pub SpellsCluster : List ℕ → Cluster → Type 0
 SpellsCluster line c = line ≡ cluster_spelling c
-
--- ---- lists of keys, and ops
-
-abbrev pub next_key : List ℕ → List ℕ
-next_key key = 44 ∷ key
-
--- keys with a comma between them, or a hyphen for none
-abbrev pub keys_spelling : List (List ℕ) → List ℕ
-keys_spelling [] = codes "-"
-keys_spelling (key ∷ keys) = key ++ flat_map next_key keys
-
--- the ops as they stand, or a hyphen for none
-abbrev pub ops_word : List ℕ → List ℕ
-ops_word [] = codes "-"
-ops_word (b ∷ bytes) = b ∷ bytes
-
--- a byte of ops: from the space to the tilde
-pub record IsOpsByte (b : ℕ) : Type 0 where
-  pub least : 32 ≤ b
-  pub most : b ≤ 126
-
--- bytes to the end of the line, other than a hyphen alone
-pub record AreOps (ops : List ℕ) : Type 0 where
-  pub bytes : AllByRecursion IsOpsByte ops
-  pub other : ops ≢ codes "-"
 
 -- ---- every further line
 

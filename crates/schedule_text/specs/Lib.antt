@@ -1,4 +1,12 @@
 pub mod Words
+pub mod Lists
+pub mod Forms
+pub mod Lines
+pub mod Fronts
+pub mod Spellings
+pub mod Places
+pub mod Found
+pub mod ReadingLaws
 pub mod Events
 pub mod Parts
 pub mod Outcomes

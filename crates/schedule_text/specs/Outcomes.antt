@@ -59,7 +59,7 @@ read_refusal_text (unserved.NotRunning p) = codes "notrunning " ++ phase_text p
 read_refusal_text unserved.BadId = codes "badid"
 read_refusal_text (unserved.NotYet committed) = codes "notyet " ++ decimal committed
 
--- of a fault that is no want of memory
+-- of a fault other than running out of memory
 abbrev pub build_fault_text : BuildFault → List ℕ
 build_fault_text (unbuilt.BadOps at) = codes "badops " ++ decimal at
 build_fault_text unbuilt.TooManyLocks = codes "toomanylocks"

@@ -1,31 +1,12 @@
 -- The parts of an append's line: words that are lists of keys, and the ops at its end.
 use Rattle.std.specs.Prelude.{◌≡◌, ℕ, List, ◌++◌, ◌∷◌, codes, decimal, ⊤}
-use Rattle.std.specs.List.{AllByRecursion}
-use Rattle.tx_model.specs.Applications.{IsKey}
 use Rattle.net_model.specs.declared.cluster.Cluster.{Cluster}
 use Rattle.net_model.specs.declared.event.Event.{Event}
 use Rattle.net_model.specs.declared.event.Event.TheVariants.{Append}
-use Rattle.schedule_text.specs.Events.{AreOps, keys_spelling, ops_word, SpellsEvent}
+use Rattle.schedule_text.specs.Lists.{IsKeysWord, IsOpsWord}
+use Rattle.schedule_text.specs.Events.{SpellsEvent}
 use Rattle.net_model.specs.Events.{IsInRange}
 use Rattle.net_model.specs.Clusters.{IsWithin}
-
--- a word is this list of keys
-pub record SpellsKeys (word : List ℕ) (keys : List (List ℕ)) : Type 0 where
-  pub valid : AllByRecursion IsKey keys
-  pub text : word ≡ keys_spelling keys
-
--- a word is some list of keys
-abbrev pub IsKeysWord : List ℕ → Type 0
-IsKeysWord word = (keys : List (List ℕ)) × SpellsKeys word keys
-
--- bytes to the end of a line are these ops
-pub record SpellsOpsWord (word ops : List ℕ) : Type 0 where
-  pub valid : AreOps ops
-  pub text : word ≡ ops_word ops
-
--- bytes to the end of a line are some ops
-abbrev pub IsOpsWord : List ℕ → Type 0
-IsOpsWord word = (ops : List ℕ) × SpellsOpsWord word ops
 
 -- what stands behind the word of an append: two numbers, two words and the rest of the line
 abbrev pub append_rest : ℕ → ℕ → List ℕ → List ℕ → List ℕ → List ℕ

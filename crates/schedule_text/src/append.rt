@@ -1,58 +1,16 @@
 //! The line of an append: its lists of keys and its ops.
-ghost use Rattle.std.specs.Prelude.{◌≡◌, ◌++◌, ◌↔◌, ℕ, List, IfSome, IfNone, IfOk, IsTrue, codes};
+ghost use Rattle.std.specs.Prelude.{◌≡◌, ◌++◌, ◌↔◌, ℕ, List, IfSome, IfNone, IfOk, codes};
 ghost use Rattle.schedule_text.specs.Events.{SpellsEvent, IsReadEvent};
 ghost use Rattle.net_model.specs.Events.{IsInRange};
-ghost use Rattle.schedule_text.specs.Parts.{SpellsKeys, IsKeysWord, SpellsOpsWord, IsOpsWord, IsAppendRest, IsNoAppend};
+ghost use Rattle.schedule_text.specs.Lists.{SpellsKeys, IsKeysWord, SpellsOpsWord, IsOpsWord};
+ghost use Rattle.schedule_text.specs.Parts.{IsAppendRest, IsNoAppend};
 
 use crate::LineFault;
-use crate::key::is_key;
+use crate::lines::lists::{are_keys, are_ops, keys_of, ops_of};
 use crate::parse::{first_number, split_word};
 use net_model::{Cluster, Event};
 use std::alloc::{AllocError, Global};
-use tx_model::{Lock, Locks, OpText};
-
-// Whether the word is a list of keys.
-fn are_keys(word: &[u8]) -> bool
-    ensures { IsTrue result ↔ IsKeysWord word.now }
-{
-    if word == b"-".as_slice() {
-        return true;
-    }
-    word.split(|byte| *byte == b',').all(is_key)
-}
-
-// The keys of such a word.
-fn keys_of(alloc: Global, word: &[u8]) -> Result<Locks, AllocError>
-    requires { IsKeysWord word.now }
-    ensures { IfOk result (λ keys. SpellsKeys word.now keys) }
-{
-    let mut keys = Vec::new(alloc);
-    if word == b"-".as_slice() {
-        return Ok(Locks::new(keys));
-    }
-    for key in word.split(|byte| *byte == b',') {
-        keys.push(Lock::of_name(alloc, key)?)?;
-    }
-    Ok(Locks::new(keys))
-}
-
-// Whether bytes to the end of a line are ops.
-fn are_ops(word: &[u8]) -> bool
-    ensures { IsTrue result ↔ IsOpsWord word.now }
-{
-    !word.is_empty() && word.iter().all(|byte| matches!(*byte, b' '..=b'~'))
-}
-
-// The ops of such bytes.
-fn ops_of(alloc: Global, word: &[u8]) -> Result<OpText, AllocError>
-    requires { IsOpsWord word.now }
-    ensures { IfOk result (λ ops. SpellsOpsWord word.now ops) }
-{
-    if word == b"-".as_slice() {
-        return Ok(OpText::new(Vec::new(alloc)));
-    }
-    Ok(OpText::new(Vec::from_slice(alloc, word)?))
-}
+use tx_model::{Locks, OpText};
 
 // The parts of an append's line behind its word.
 #[derive(Clone, Copy)]

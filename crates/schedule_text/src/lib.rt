@@ -1,9 +1,10 @@
-//! The texts of schedules and outcomes.
+//! The texts of schedules, of client scripts and of outcomes.
 #![tactic(auto)]
 
 mod append;
 mod key;
 mod laws;
+pub mod lines;
 mod message;
 mod parse;
 mod print;

@@ -77,7 +77,7 @@ pub(crate) fn add_read_refusal(refusal: &ReadRefusal, line: &mut Vec<u8>) -> Res
     }
 }
 
-/// Adds a client's reason to build no transaction. Want of memory has no text.
+/// Adds a client's reason to build no transaction. Running out of memory has no text.
 pub(crate) fn add_build_fault(
     alloc: Global,
     fault: &BuildFault,

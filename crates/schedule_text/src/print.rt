@@ -244,7 +244,7 @@ pub fn print_read_refusal(
     into.extend_from_slice(&text)
 }
 
-/// Adds a client's reason to build no transaction. Want of memory has no text.
+/// Adds a client's reason to build no transaction. Running out of memory has no text.
 pub fn print_build_fault(
     alloc: Global,
     f: &BuildFault,

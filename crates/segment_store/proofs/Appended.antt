@@ -3,17 +3,20 @@ use Rattle.std.proofs.Common.{◌≡◌, ℕ, ◌+◌, List, [], ◌∷◌, ◌+
 use Rattle.std.specs.List.{AllByRecursion}
 use Rattle.std.proofs.lemmas.List.{append-nil, take-map}
 use Rattle.tx_model.specs.declared.record.Record.{Record}
-use Rattle.tx_model.specs.Records.{IsRecord, RiseByOne}
+use Rattle.tx_model.specs.Records.{IsRecord, RiseByOne, ids_rise}
 use Rattle.tx_model.proofs.Batches.{RiseByOne-append, RiseByOne-take, RiseByOne-All}
-use Rattle.record_frame.specs.Framing.{record_len}
+use Rattle.tx_model.proofs.RisingIds.{rise-ids}
+use Rattle.tx_model.specs.Framing.{record_len}
 use Rattle.disk_model.specs.File.{File, IsImage, IsDuring, settled, written, overlaid}
 use Rattle.disk_model.specs.History.{History, EachMoment}
-use Rattle.disk_model.specs.Frames.{IsFrame, joined, frames_in, EachImage, IsPrefixOf}
-use Rattle.disk_model.proofs.Walks.{all-append, joined-append, frames_in-joined, frames_in-stop}
+use Rattle.tx_model.specs.Frames.{IsFrame, joined, frames_in, IsPrefixOf}
+use Rattle.disk_model.specs.Frames.{EachImage}
+use Rattle.tx_model.proofs.Walks.{all-append, joined-append, frames_in-joined, frames_in-stop}
 use Rattle.disk_model.proofs.Images.{empty, image_settled}
 use Rattle.disk_model.proofs.Moments.{weaker}
 use Rattle.disk_model.proofs.Appends.{append_writes, append_syncs, reads_mid}
-use Rattle.segment_store.specs.Records.{records_of, records_in, frames_of, HasPrefixOf}
+use Rattle.tx_model.specs.Contents.{records_of, records_in}
+use Rattle.segment_store.specs.Records.{frames_of, HasPrefixOf}
 use Rattle.segment_store.specs.Index.{Index, count_of, starts_of, IsTidy, IsLoadable}
 use Rattle.segment_store.proofs.Indexing.{framing, index-count, index-frames, records_of-append, length-records_of, starts_of-append}
 use Rattle.segment_store.proofs.Encoded.{frames_of-frames, records_of-frames_of, length-frames_of}
@@ -62,7 +65,7 @@ pub prefix-loadable : (s : Index) (old new now : List Record) → RiseByOne s.fi
 prefix-loadable s old new now rise count ids found =
     let next : RiseByOne (s.first + length old) (take found.0 new) = subst (λ (n : ℕ). RiseByOne (s.first + n) (take found.0 new)) count (RiseByOne-take (s.first + count_of s) new found.0 ids) in
     record {
-      ids = subst (RiseByOne s.first) (sym found.2) (RiseByOne-append s.first old (take found.0 new) rise next);
+      ids = ap (λ (rs : List Record). ids_rise s.first rs) found.2 ∙ rise-ids s.first (old ++ take found.0 new) (RiseByOne-append s.first old (take found.0 new) rise next);
       enough = omega (arith, ap length found.2, length-append old (take found.0 new), count);
     }
 

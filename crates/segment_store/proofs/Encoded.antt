@@ -6,11 +6,12 @@ use Rattle.std.proofs.lemmas.List.Elements.{All-head, All-tail}
 use Rattle.tx_model.specs.declared.record.Record.{Record}
 use Rattle.tx_model.specs.Records.{IsRecord}
 use Rattle.tx_model.specs.Spelling.{record_frame, SpellsRecord}
-use Rattle.record_frame.specs.Framing.{record_len, framed_record}
+use Rattle.tx_model.specs.Framing.{record_len, framed_record}
 use Rattle.record_frame.proofs.FrontFrames.{spelling-framed}
-use Rattle.disk_model.specs.Frames.{IsFrame, joined}
-use Rattle.disk_model.proofs.Walks.{joined-append}
-use Rattle.segment_store.specs.Records.{records_of, frames_of}
+use Rattle.tx_model.specs.Frames.{IsFrame, joined}
+use Rattle.tx_model.proofs.Walks.{joined-append}
+use Rattle.tx_model.specs.Contents.{records_of}
+use Rattle.segment_store.specs.Records.{frames_of}
 use Rattle.segment_store.specs.Index.{starts_of}
 use Rattle.segment_store.proofs.Indexing.{starts_of-append, starts_of-one}
 

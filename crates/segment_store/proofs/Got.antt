@@ -10,10 +10,10 @@ use Rattle.std.proofs.Math.Seq.{take-add, take-suc, drop-cons}
 use Rattle.tx_model.specs.declared.record.Record.{Record}
 use Rattle.tx_model.specs.Records.{RiseByOne}
 use Rattle.tx_model.proofs.Batches.{RiseByOne-take, RiseByOne-drop, RiseByOne-id}
-use Rattle.record_frame.specs.Framing.{record_len, framed_record}
-use Rattle.disk_model.specs.Frames.{IsFrame, joined, frames_in}
-use Rattle.disk_model.proofs.Walks.{joined-append}
-use Rattle.segment_store.specs.Records.{records_of, records_in}
+use Rattle.tx_model.specs.Framing.{record_len, framed_record}
+use Rattle.tx_model.specs.Frames.{IsFrame, joined, frames_in}
+use Rattle.tx_model.proofs.Walks.{joined-append}
+use Rattle.tx_model.specs.Contents.{records_of, records_in}
 use Rattle.segment_store.specs.Index.{Index, count_of, place_of, run_length, IsIndexOf}
 use Rattle.segment_store.proofs.Indexing.{behind, all-take, all-drop, get_or-starts_of, split_at, index-count, index-frames, records_of-append, length-records_of}
 

@@ -1,23 +1,22 @@
--- Where records stand: one more, some fewer, and what a place that is refused says.
-use Rattle.std.proofs.Common.{◌≡◌, ◌≢◌, inr, ℕ, zero, suc, ◌+◌, ◌-◌, ◌<◌, ◌≤◌, List, [], ◌∷◌, ◌++◌, length, take, drop, get_or, refl, sym, ◌∙◌, ap, subst, arith, append_assoc, length-append, take-append-drop}
+-- Where records stand: one more, and some fewer.
+use Rattle.std.proofs.Common.{◌≡◌, ℕ, zero, suc, ◌+◌, ◌-◌, ◌<◌, ◌≤◌, List, [], ◌∷◌, ◌++◌, length, take, drop, get_or, refl, sym, ◌∙◌, ap, subst, arith, append_assoc, length-append, take-append-drop}
 use Rattle.std.specs.List.{AllByRecursion}
 use Rattle.std.proofs.lemmas.List.{append-nil, map-append, length-map, drop_at, take-append-le, length-take-le, drop-drop, take_all}
 use Rattle.tx_model.specs.declared.record.Record.{Record}
 use Rattle.tx_model.specs.Records.{IsRecord, RiseByOne}
 use Rattle.tx_model.proofs.Batches.{RiseByOne-append, RiseByOne-front}
-use Rattle.record_frame.specs.Framing.{record_len, framed_record}
-use Rattle.record_frame.proofs.Parts.{IsBytes}
-use Rattle.record_frame.proofs.FrontFrames.{record_len-within, record_len-alike, framed_record-alike, framed-spells}
-use Rattle.disk_model.specs.Frames.{IsFrame, IsFraming, joined, frames_in}
-use Rattle.disk_model.proofs.Walks.{joined-append, all-append, split, frames_in-joined}
-use Rattle.segment_store.specs.Records.{records_of}
-use Rattle.segment_store.specs.Index.{Index, count_of, starts_of, IsIndexOf, IsDamagedAt}
+use Rattle.tx_model.specs.Framing.{record_len, framed_record}
+use Rattle.record_frame.proofs.FrontFrames.{record_len-within, record_len-alike, framed_record-alike}
+use Rattle.tx_model.specs.Frames.{IsFrame, IsFraming, joined, frames_in}
+use Rattle.tx_model.proofs.Walks.{joined-append, all-append, split, frames_in-joined}
+use Rattle.tx_model.specs.Contents.{records_of}
+use Rattle.segment_store.specs.Index.{Index, count_of, starts_of, IsIndexOf, IsNext}
 
 -- ---- the framing of records
 
 -- the frame at the front, by itself
-pub front : (bs : List ℕ) → 0 < record_len bs → (record_len (take (record_len bs) bs) ≡ record_len bs) × (framed_record (take (record_len bs) bs) ≡ framed_record bs)
-front bs some =
+pub frame_front : (bs : List ℕ) → 0 < record_len bs → (record_len (take (record_len bs) bs) ≡ record_len bs) × (framed_record (take (record_len bs) bs) ≡ framed_record bs)
+frame_front bs some =
     let n = record_len bs in
     let f = take n bs in
     let long : length f ≡ n = length-take-le n bs (record_len-within bs) in
@@ -33,13 +32,21 @@ behind f rest is =
     let same : take (record_len f) (f ++ rest) ≡ take (record_len f) f = take-append-le (record_len f) f rest (omega arith) in
     (record_len-alike f (f ++ rest) some enough same ∙ whole, framed_record-alike f (f ++ rest) some enough same)
 
+-- what follows the bytes doesn't matter to a frame that stands there whole and right
+pub in-front : (bytes more : List ℕ) → 0 < record_len bytes → (record_len (bytes ++ more) ≡ record_len bytes) × (framed_record (bytes ++ more) ≡ framed_record bytes)
+in-front bytes more some =
+    let within : record_len bytes ≤ length bytes = record_len-within bytes in
+    let enough : record_len bytes ≤ length (bytes ++ more) = omega (arith, length-append bytes more) in
+    let same : take (record_len bytes) (bytes ++ more) ≡ take (record_len bytes) bytes = take-append-le (record_len bytes) bytes more within in
+    (record_len-alike bytes (bytes ++ more) some enough same, framed_record-alike bytes (bytes ++ more) some enough same)
+
 pub framing : IsFraming record_len
-framing = record { fits = record_len-within; alone = λ f rest is. (behind f rest is).0; front = λ bs some. (front bs some).0 }
+framing = record { fits = record_len-within; alone = λ f rest is. (behind f rest is).0; front = λ bs some. (frame_front bs some).0 }
 
 pub first_frame : (bs : List ℕ) → 0 < record_len bs → IsFrame record_len (take (record_len bs) bs)
 first_frame bs some =
     let long : length (take (record_len bs) bs) ≡ record_len bs = length-take-le (record_len bs) bs (record_len-within bs) in
-    record { some = omega arith; whole = (front bs some).0 ∙ sym long }
+    record { some = omega arith; whole = (frame_front bs some).0 ∙ sym long }
 
 -- ---- lists
 
@@ -72,10 +79,6 @@ pub rise_one : (id : ℕ) (r : Record) → IsRecord r → r.id ≡ id → RiseBy
 unfolding RiseByOne
 rise_one id r is same = (is, same, tt)
 
-rise_first : (id : ℕ) (r : Record) (rs : List Record) → RiseByOne id (r ∷ rs) → r.id ≡ id
-unfolding RiseByOne
-rise_first id r rs rise = rise.1
-
 pub none_rise : (id : ℕ) → RiseByOne id []
 unfolding RiseByOne
 none_rise id = tt
@@ -94,55 +97,51 @@ index-rest s all index = ap (λ (l : List ℕ). drop s.end l) index.is ∙ drop_
 pub index-count : (s : Index) (all : List ℕ) (index : IsIndexOf s all) → count_of s ≡ length index.frames
 index-count s all index = ap length index.starts ∙ length-starts_of 0 index.frames
 
-module _ (s : Index) (bytes more all : List ℕ) (at_end : drop s.end all ≡ bytes ++ more) (index : IsIndexOf s all) (some : 0 < record_len bytes) where
-  n : ℕ
-  n = record_len bytes
-
+-- one frame more
+module _ (fs : List (List ℕ)) (rest : List ℕ) (some : 0 < record_len rest) where
   abbrev f : List ℕ
-  f = take (record_len bytes) bytes
+  f = take (record_len rest) rest
 
-  here : index.rest ≡ f ++ (drop (record_len bytes) bytes ++ more)
-  here =
-      sym (index-rest s all index) ∙ at_end ∙ ap (λ (l : List ℕ). l ++ more) (sym (take-append-drop (record_len bytes) bytes))
-      ∙ append_assoc f (drop (record_len bytes) bytes) more
+  one_more : joined (fs ++ f ∷ []) ≡ joined fs ++ f
+  one_more = joined-one fs f
 
-  stands : record_len index.rest ≡ record_len bytes
-  stands =
-      let long : length f ≡ record_len bytes = length-take-le (record_len bytes) bytes (record_len-within bytes) in
-      ap record_len here ∙ (behind f (drop (record_len bytes) bytes ++ more) (first_frame bytes some)).0 ∙ long
+  pub more_is : joined fs ++ rest ≡ joined (fs ++ f ∷ []) ++ drop (record_len rest) rest
+  more_is =
+      ap (λ (l : List ℕ). joined fs ++ l) (sym (take-append-drop (record_len rest) rest)) ∙ sym (append_assoc (joined fs) f (drop (record_len rest) rest))
+      ∙ ap (λ (l : List ℕ). l ++ drop (record_len rest) rest) (sym one_more)
 
-  says : framed_record index.rest ≡ framed_record bytes
-  says = ap framed_record here ∙ (behind f (drop (record_len bytes) bytes ++ more) (first_frame bytes some)).1 ∙ (front bytes some).1
+  pub more_whole : AllByRecursion (IsFrame record_len) fs → AllByRecursion (IsFrame record_len) (fs ++ f ∷ [])
+  more_whole whole = all-append (IsFrame record_len) fs (f ∷ []) whole (first_frame rest some, tt)
 
-  pub index-more : IsBytes bytes → (framed_record bytes).id ≡ s.first + count_of s → IsIndexOf (record s { starts = s.starts ++ s.end ∷ []; end = s.end + record_len bytes }) all
-  index-more fits id =
-      let long : length f ≡ record_len bytes = length-take-le (record_len bytes) bytes (record_len-within bytes) in
-      let behind_it = drop (record_len bytes) bytes ++ more in
-      let one = joined-one index.frames f in
-      let is_next : (framed_record f).id ≡ s.first + length (records_of index.frames) = ap (λ (r : Record). r.id) (front bytes some).1 ∙ id ∙ ap (λ (k : ℕ). s.first + k) (index-count s all index ∙ sym (length-records_of index.frames)) in
-      let valid : IsRecord (framed_record f) = subst IsRecord (sym (front bytes some).1) (framed-spells bytes some fits).valid in
-      record {
-        frames = index.frames ++ f ∷ [];
-        rest = behind_it;
-        whole = all-append (IsFrame record_len) index.frames (f ∷ []) index.whole (first_frame bytes some, tt);
-        is = index.is ∙ ap (λ (l : List ℕ). joined index.frames ++ l) here ∙ sym (append_assoc (joined index.frames) f behind_it) ∙ ap (λ (l : List ℕ). l ++ behind_it) (sym one);
-        starts =
-            ap (λ (l : List ℕ). l ++ s.end ∷ []) index.starts ∙ ap (λ (k : ℕ). starts_of 0 index.frames ++ k ∷ []) index.end
-            ∙ ap (λ (l : List ℕ). starts_of 0 index.frames ++ l) (sym (starts_of-one (length (joined index.frames)) f)) ∙ sym (starts_of-append 0 index.frames (f ∷ []) ∙ ap (λ (k : ℕ). starts_of 0 index.frames ++ starts_of k (f ∷ [])) (omega arith));
-        end = omega (arith, index.end, long, ap length one, length-append (joined index.frames) f);
-        ids = subst (RiseByOne s.first) (sym (records_of-append index.frames (f ∷ []))) (RiseByOne-append s.first (records_of index.frames) (framed_record f ∷ []) index.ids (rise_one _ (framed_record f) valid is_next));
-      }
+  pub more_long : length (joined (fs ++ f ∷ [])) ≡ length (joined fs) + record_len rest
+  more_long =
+      let long : length f ≡ record_len rest = length-take-le (record_len rest) rest (record_len-within rest) in
+      omega (arith, long, ap length one_more, length-append (joined fs) f)
 
-  pub damaged-id : (count : ℕ) → (framed_record bytes).id ≢ s.first + count_of s → IsDamagedAt s.first count all s.end
-  damaged-id count other = record {
-    front = index.frames;
-    rest = index.rest;
-    whole = index.whole;
-    is = index.is;
-    ids = index.ids;
-    place = index.end;
-    wrong = inr (omega (arith, some, stands), λ same. other (sym (ap (λ (r : Record). r.id) says) ∙ same ∙ ap (λ (k : ℕ). s.first + k) (sym (index-count s all index))));
-  }
+-- one record more
+pub index-more : (s : Index) (len : ℕ) (all : List ℕ) → IsIndexOf s all → IsNext s len (drop s.end all) → IsIndexOf (record s { starts = s.starts ++ s.end ∷ []; end = s.end + len }) all
+index-more s len all index next =
+    let fs = index.frames in
+    let rest = index.rest in
+    let here : drop s.end all ≡ rest = index-rest s all index in
+    let whole : record_len rest ≡ len = subst (λ (l : List ℕ). record_len l ≡ len) here next.whole in
+    let some : 0 < record_len rest = omega (arith, next.some) in
+    let f : List ℕ = take (record_len rest) rest in
+    let says : framed_record f ≡ framed_record (drop s.end all) = (frame_front rest some).1 ∙ ap framed_record (sym here) in
+    let place : s.first + count_of s ≡ s.first + length (records_of fs) = ap (λ (k : ℕ). s.first + k) (index-count s all index ∙ sym (length-records_of fs)) in
+    let one : RiseByOne (s.first + length (records_of fs)) (framed_record f ∷ []) =
+    rise_one _ (framed_record f) (subst IsRecord (sym says) next.valid) (ap (λ (r : Record). r.id) says ∙ next.id ∙ place) in
+    record {
+      frames = fs ++ f ∷ [];
+      rest = drop (record_len rest) rest;
+      whole = more_whole fs rest some index.whole;
+      is = index.is ∙ more_is fs rest some;
+      starts =
+          ap (λ (l : List ℕ). l ++ s.end ∷ []) index.starts ∙ ap (λ (k : ℕ). starts_of 0 fs ++ k ∷ []) index.end
+          ∙ ap (λ (l : List ℕ). starts_of 0 fs ++ l) (sym (starts_of-one (length (joined fs)) f)) ∙ sym (starts_of-append 0 fs (f ∷ []) ∙ ap (λ (k : ℕ). starts_of 0 fs ++ starts_of k (f ∷ [])) (omega arith));
+      end = omega (arith, index.end, whole, more_long fs rest some);
+      ids = subst (RiseByOne s.first) (sym (records_of-append fs (f ∷ []))) (RiseByOne-append s.first (records_of fs) (framed_record f ∷ []) index.ids one);
+    }
 
 -- ---- the record at a place
 
@@ -188,15 +187,18 @@ index-close s all len end lt end_is index =
       ids = RiseByOne-front s.first (records_of (take len fs)) (records_of (drop len fs)) (subst (RiseByOne s.first) cut index.ids);
     }
 
+-- behind whole and right frames go on those of the rest
+pub frames_behind : (fs : List (List ℕ)) (rest all : List ℕ) → AllByRecursion (IsFrame record_len) fs → all ≡ joined fs ++ rest → frames_in record_len all ≡ fs ++ frames_in record_len rest
+frames_behind fs rest all whole is =
+    let parts = split record_len framing rest in
+    let gs = frames_in record_len rest in
+    let same : all ≡ joined (fs ++ gs) ++ parts.rest =
+    is ∙ ap (λ (l : List ℕ). joined fs ++ l) parts.is ∙ sym (append_assoc (joined fs) (joined gs) parts.rest) ∙ ap (λ (l : List ℕ). l ++ parts.rest) (sym (joined-append fs gs)) in
+    ap (frames_in record_len) same ∙ frames_in-joined record_len framing (fs ++ gs) parts.rest (all-append (IsFrame record_len) fs gs whole parts.frames) parts.none
+
 -- the frames of the file are those of the index, and perhaps more
 pub index-frames : (s : Index) (all : List ℕ) (index : IsIndexOf s all) → frames_in record_len all ≡ index.frames ++ frames_in record_len index.rest
-index-frames s all index =
-    let fs = index.frames in
-    let parts = split record_len framing index.rest in
-    let gs = frames_in record_len index.rest in
-    let whole : all ≡ joined (fs ++ gs) ++ parts.rest =
-    index.is ∙ ap (λ (l : List ℕ). joined fs ++ l) parts.is ∙ sym (append_assoc (joined fs) (joined gs) parts.rest) ∙ ap (λ (l : List ℕ). l ++ parts.rest) (sym (joined-append fs gs)) in
-    ap (frames_in record_len) whole ∙ frames_in-joined record_len framing (fs ++ gs) parts.rest (all-append (IsFrame record_len) fs gs index.whole parts.frames) parts.none
+index-frames s all index = frames_behind index.frames index.rest all index.whole index.is
 
 -- the same places, first id and end make the same index
 pub index-as : (s t : Index) (bytes : List ℕ) → t.first ≡ s.first → t.starts ≡ s.starts → t.end ≡ s.end → IsIndexOf s bytes → IsIndexOf t bytes
@@ -209,11 +211,6 @@ index-as s t bytes first starts end index = record {
   end = end ∙ index.end;
   ids = subst (λ (n : ℕ). RiseByOne n (records_of index.frames)) (sym first) index.ids;
 }
-
--- the same of a place that is refused
-pub damaged-as : (first first' count at at' : ℕ) (bytes : List ℕ) → first' ≡ first → at' ≡ at → IsDamagedAt first count bytes at → IsDamagedAt first' count bytes at'
-damaged-as first first' count at at' bytes same_first same_at is =
-    subst (λ (n : ℕ). IsDamagedAt n count bytes at') (sym same_first) (subst (λ (n : ℕ). IsDamagedAt first count bytes n) (sym same_at) is)
 
 -- ---- on through the bytes that were read
 

@@ -1,4 +1,6 @@
 pub mod Indexing
+pub mod Damaged
+pub mod Noted
 pub mod Loaded
 pub mod Encoded
 pub mod Appended

@@ -1,21 +1,23 @@
 -- Loading, over the history of the file.
-use Rattle.std.proofs.Common.{◌≡◌, ◌≢◌, inl, inr, ℕ, ◌+◌, ◌<◌, ◌≤◌, List, [], ◌∷◌, ◌++◌, length, take, refl, sym, ◌∙◌, ap, subst, arith}
+use Rattle.std.proofs.Common.{◌≡◌, ℕ, ◌≤◌, List, [], ◌++◌, length, take, sym, ◌∙◌, ap, subst, arith}
 use Rattle.std.proofs.lemmas.List.{append-nil}
 use Rattle.tx_model.specs.declared.record.Record.{Record}
-use Rattle.tx_model.specs.Records.{RiseByOne}
-use Rattle.tx_model.proofs.Batches.{RiseByOne-back}
-use Rattle.record_frame.specs.Framing.{record_len}
+use Rattle.tx_model.specs.Records.{ids_rise}
+use Rattle.tx_model.proofs.RisingIds.{rise-ids}
+use Rattle.tx_model.specs.Framing.{record_len}
 use Rattle.disk_model.specs.File.{IsPlain, IsSound, settled}
 use Rattle.disk_model.specs.History.{History, EachMoment, Always}
-use Rattle.disk_model.specs.Frames.{joined, frames_in, EachImage, IsAtRest, IsFirm}
-use Rattle.disk_model.proofs.Walks.{frames_in-stop, frames_in-step}
+use Rattle.tx_model.specs.Frames.{joined, frames_in}
+use Rattle.disk_model.specs.Frames.{EachImage, IsAtRest, IsFirm}
+use Rattle.tx_model.proofs.Walks.{frames_in-stop}
 use Rattle.disk_model.proofs.Firm.{firm_images}
 use Rattle.disk_model.proofs.Left.{each_left}
 use Rattle.disk_model.proofs.Trimmed.{trimmed, trimmed_frames, trimmed_rest}
 use Rattle.disk_model.proofs.Moments.{weaker}
-use Rattle.segment_store.specs.Records.{records_of, records_in, EachLeftHolds}
-use Rattle.segment_store.specs.Index.{Index, count_of, IsTidy, IsDamagedAt, IsLoadable, IsWholeIndexOf}
-use Rattle.segment_store.proofs.Indexing.{framing, index-count, index-rest, index-frames, length-records_of, records_of-append, front}
+use Rattle.tx_model.specs.Contents.{records_of, records_in}
+use Rattle.segment_store.specs.Records.{EachLeftHolds}
+use Rattle.segment_store.specs.Index.{Index, count_of, IsTidy, IsLoadable, IsWholeIndexOf}
+use Rattle.segment_store.proofs.Indexing.{framing, index-count, index-rest, index-frames, length-records_of}
 
 -- ---- all frames of the file
 
@@ -24,59 +26,15 @@ wholly-frames s all wholly =
     let none : record_len wholly.index.rest ≡ 0 = ap record_len (sym (index-rest s all wholly.index)) ∙ wholly.none in
     index-frames s all wholly.index ∙ ap (λ (gs : List (List ℕ)). wholly.index.frames ++ gs) (frames_in-stop record_len framing wholly.index.rest none) ∙ append-nil wholly.index.frames
 
--- ---- what is refused
+-- ---- what is taken
 
 pub loadable : (s : Index) (count : ℕ) (all : List ℕ) → IsWholeIndexOf s all → count ≤ count_of s → IsLoadable s.first count (records_in all)
 loadable s count all wholly enough =
     let same : records_in all ≡ records_of wholly.index.frames = ap records_of (wholly-frames s all wholly) in
     record {
-      ids = subst (RiseByOne s.first) (sym same) wholly.index.ids;
+      ids = ap (λ (rs : List Record). ids_rise s.first rs) same ∙ rise-ids s.first (records_of wholly.index.frames) wholly.index.ids;
       enough = omega (arith, ap length same, length-records_of wholly.index.frames, index-count s all wholly.index);
     }
-
-pub damaged-short : (s : Index) (count : ℕ) (all : List ℕ) → IsWholeIndexOf s all → count_of s < count → IsDamagedAt s.first count all s.end
-damaged-short s count all wholly few = record {
-  front = wholly.index.frames;
-  rest = wholly.index.rest;
-  whole = wholly.index.whole;
-  is = wholly.index.is;
-  ids = wholly.index.ids;
-  place = wholly.index.end;
-  wrong = inl (ap record_len (sym (index-rest s all wholly.index)) ∙ wholly.none, omega (arith, index-count s all wholly.index));
-}
-
--- the frames of the bytes are those in front of the place, and then those from it on
-frames-at : (first count : ℕ) (all : List ℕ) (at : ℕ) (damaged : IsDamagedAt first count all at) → frames_in record_len all ≡ damaged.front ++ frames_in record_len damaged.rest
-frames-at first count all at damaged = index-frames (record { file = 0; first = first; starts = _; end = length (joined damaged.front) }) all (record {
-  frames = damaged.front;
-  rest = damaged.rest;
-  whole = damaged.whole;
-  is = damaged.is;
-  starts = refl;
-  end = refl;
-  ids = damaged.ids;
-})
-
-rise_head : (id : ℕ) (r : Record) (rs : List Record) → RiseByOne id (r ∷ rs) → r.id ≡ id
-unfolding RiseByOne
-rise_head id r rs rise = rise.1
-
-pub not_both : (first count : ℕ) (all : List ℕ) (at : ℕ) → IsLoadable first count (records_in all) → IsDamagedAt first count all at → ⊥
-not_both first count all at load damaged =
-    let gs = frames_in record_len damaged.rest in
-    let same : records_in all ≡ records_of damaged.front ++ records_of gs = ap records_of (frames-at first count all at damaged) ∙ records_of-append damaged.front gs in
-    elim damaged.wrong [
-      | inl short ↦
-          let none : gs ≡ [] = frames_in-stop record_len framing damaged.rest short.0 in
-          let n : length (records_in all) ≡ length (records_of damaged.front) = ap length (same ∙ ap (λ (hs : List (List ℕ)). records_of damaged.front ++ records_of hs) none ∙ append-nil (records_of damaged.front)) in
-          omega (arith, n, length-records_of damaged.front, load.enough, short.1)
-      | inr other ↦
-          let some : record_len damaged.rest ≢ 0 = omega (arith, other.0) in
-          let step = frames_in-step record_len framing damaged.rest some in
-          let back : RiseByOne (first + length (records_of damaged.front)) (records_of gs) = RiseByOne-back first (records_of damaged.front) (records_of gs) (subst (RiseByOne first) same load.ids) in
-          let head = rise_head _ _ _ (subst (λ (hs : List (List ℕ)). RiseByOne (first + length (records_of damaged.front)) (records_of hs)) step back) in
-          other.1 (sym (ap (λ (r : Record). r.id) (front damaged.rest other.0).1) ∙ head ∙ ap (λ (n : ℕ). first + n) (length-records_of damaged.front))
-    ]
 
 -- ---- the cut and the sync
 

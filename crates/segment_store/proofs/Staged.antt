@@ -5,18 +5,19 @@ use Rattle.std.proofs.lemmas.List.{append-nil, take_all, drop_all}
 use Rattle.tx_model.specs.declared.record.Record.{Record}
 use Rattle.tx_model.specs.Records.{IsRecord, RiseByOne}
 use Rattle.tx_model.proofs.Batches.{RiseByOne-append, RiseByOne-All}
-use Rattle.record_frame.specs.Framing.{record_len}
+use Rattle.tx_model.specs.Framing.{record_len}
 use Rattle.disk_model.specs.File.{settled, overlaid}
-use Rattle.disk_model.specs.Frames.{IsFrame, joined, frames_in}
-use Rattle.disk_model.proofs.Walks.{all-append, joined-append, frames_in-joined, frames_in-stop}
+use Rattle.tx_model.specs.Frames.{IsFrame, joined, frames_in}
+use Rattle.tx_model.proofs.Walks.{all-append, joined-append, frames_in-joined, frames_in-stop}
 use Rattle.disk_model.proofs.Images.{empty}
-use Rattle.segment_store.specs.Records.{records_of, records_in, frames_of}
+use Rattle.tx_model.specs.Contents.{records_of, records_in}
+use Rattle.segment_store.specs.Records.{frames_of}
 use Rattle.segment_store.specs.Index.{Index, count_of, starts_of, IsIndexOfAll, IsTidy}
 use Rattle.segment_store.proofs.Indexing.{framing, index-count, index-frames, records_of-append, length-records_of, starts_of-append}
 use Rattle.segment_store.proofs.Encoded.{frames_of-frames, records_of-frames_of}
 use Rattle.segment_store.proofs.Appended.{no_bytes}
 
-all-frames : (s : Index) (file : List ℕ) (all : IsIndexOfAll s file) → (file ≡ joined all.index.frames) × (frames_in record_len file ≡ all.index.frames)
+pub all-frames : (s : Index) (file : List ℕ) (all : IsIndexOfAll s file) → (file ≡ joined all.index.frames) × (frames_in record_len file ≡ all.index.frames)
 all-frames s file all =
     let index = all.index in
     let rest : index.rest ≡ [] = no_bytes index.rest (omega (arith, ap length index.is, length-append (joined index.frames) index.rest, index.end, all.ends)) in (

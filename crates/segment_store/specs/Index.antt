@@ -1,12 +1,13 @@
 -- Where the records of a file stand.
-use Rattle.std.specs.Prelude.{◌≡◌, ◌≢◌, ◌⊎◌, ℕ, ◌+◌, ◌-◌, ◌<◌, ◌≤◌, List, [], ◌∷◌, ◌++◌, length, drop, min, nat_le, if◌then◌else◌, slice_index, slice_index_or}
+use Rattle.std.specs.Prelude.{◌≡◌, ℕ, ◌+◌, ◌-◌, ◌<◌, ◌≤◌, true, List, [], ◌∷◌, ◌++◌, length, drop, min, nat_le, if◌then◌else◌, slice_index, slice_index_or}
 use Rattle.std.specs.List.{AllByRecursion}
 use Rattle.tx_model.specs.declared.record.Record.{Record}
-use Rattle.tx_model.specs.Records.{RiseByOne}
-use Rattle.record_frame.specs.Framing.{record_len, framed_record}
+use Rattle.tx_model.specs.Records.{IsRecord, RiseByOne, ids_rise}
+use Rattle.tx_model.specs.Framing.{record_len, framed_record}
 use Rattle.disk_model.specs.File.{File}
-use Rattle.disk_model.specs.Frames.{IsFrame, IsAtRest, joined}
-use Rattle.segment_store.specs.Records.{records_of}
+use Rattle.tx_model.specs.Frames.{IsFrame, joined}
+use Rattle.disk_model.specs.Frames.{IsAtRest}
+use Rattle.tx_model.specs.Contents.{records_of, IsDamagedAt}
 
 -- what a segment keeps of its file
 pub record Index : Type 0 where
@@ -53,6 +54,13 @@ pub record IsIndexOf (s : Index) (bytes : List ℕ) : Type 0 where
   pub end : s.end ≡ length (joined frames)
   pub ids : RiseByOne s.first (records_of frames)
 
+-- The segment's next record stands at the front of these bytes, in a whole and right frame of this length.
+pub record IsNext (s : Index) (len : ℕ) (bytes : List ℕ) : Type 0 where
+  pub some : 0 < len
+  pub whole : record_len bytes ≡ len
+  pub valid : IsRecord (framed_record bytes)
+  pub id : (framed_record bytes).id ≡ s.first + count_of s
+
 -- The segment's records are all that stand in whole and right frames from the front of these bytes.
 pub record IsWholeIndexOf (s : Index) (bytes : List ℕ) : Type 0 where
   pub index : IsIndexOf s bytes
@@ -68,20 +76,18 @@ pub record IsTidy (s : Index) (file : File) : Type 0 where
   pub index : IsIndexOf s file.reads
   pub at_rest : IsAtRest record_len file s.end
 
--- Loading refuses these bytes at this place. Behind frames whose ids go on, either no whole and right frame stands there
--- and one is needed, or one with another id than the next.
-pub record IsDamagedAt (first count : ℕ) (bytes : List ℕ) (at : ℕ) : Type 0 where
-  pub front : List (List ℕ)
-  pub rest : List ℕ
-  pub whole : AllByRecursion (IsFrame record_len) front
-  pub is : bytes ≡ joined front ++ rest
-  pub ids : RiseByOne first (records_of front)
-  pub place : at ≡ length (joined front)
-  pub wrong : ((record_len rest ≡ 0) × (length front < count))
-      ⊎ ((0 < record_len rest) × ((framed_record rest).id ≢ first + length front))
-
 -- These records are as many as are needed, and their ids go on from the first. Loading never refuses a file that holds
 -- such records.
 pub record IsLoadable (first count : ℕ) (records : List Record) : Type 0 where
-  pub ids : RiseByOne first records
+  pub ids : ids_rise first records ≡ true
   pub enough : count ≤ length records
+
+-- One of the counted records is missing at this damaged place, or another one stands there.
+pub record IsDamagedWithin (first count : ℕ) (bytes : List ℕ) (at : ℕ) : Type 0 where
+  pub damaged : IsDamagedAt first count bytes at
+  pub counted : length damaged.front < count
+
+-- This damaged place is behind the counted records, and so another id than the next stands there.
+pub record IsDamagedBehind (first count : ℕ) (bytes : List ℕ) (at : ℕ) : Type 0 where
+  pub damaged : IsDamagedAt first count bytes at
+  pub behind : count ≤ length damaged.front

@@ -2,18 +2,11 @@
 use Rattle.std.specs.Prelude.{◌≡◌, ℕ, ◌≤◌, List, ◌++◌, map, length, take}
 use Rattle.tx_model.specs.declared.record.Record.{Record}
 use Rattle.tx_model.specs.Spelling.{record_frame}
-use Rattle.record_frame.specs.Framing.{record_len, framed_record}
+use Rattle.tx_model.specs.Framing.{record_len}
+use Rattle.tx_model.specs.Contents.{records_of, records_in}
 use Rattle.disk_model.specs.File.{File}
-use Rattle.disk_model.specs.Frames.{frames_in}
 use Rattle.disk_model.specs.Chance.{EachLeft}
 use Rattle.disk_model.specs.History.{History}
-
-abbrev pub records_of : List (List ℕ) → List Record
-records_of frames = map framed_record frames
-
--- the records of the whole and right frames at the front of these bytes
-abbrev pub records_in : List ℕ → List Record
-records_in bytes = records_of (frames_in record_len bytes)
 
 -- the records of a file now
 abbrev pub records_at : History → ℕ → List Record

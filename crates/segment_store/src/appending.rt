@@ -2,9 +2,10 @@
 ghost use Rattle.std.specs.Prelude.{◌≡◌, ℕ, List, ◌+◌, ◌-◌, ◌^◌, ◌<◌, ◌≤◌, ◌++◌, min, All, length, IfOk, OnOk, OnErr, IsErrOf, vec_len, vec_capacity};
 ghost use Rattle.tx_model.specs.Records.{IsRecord, RiseByOne};
 ghost use Rattle.disk_model.specs.File.{IsImage};
-ghost use Rattle.disk_model.specs.Frames.{joined};
+ghost use Rattle.tx_model.specs.Frames.{joined};
 ghost use Rattle.disk_model.specs.History.{EachMoment, KeepsWorking};
-ghost use Rattle.segment_store.specs.Records.{frames_of, records_in, records_at, HasPrefixOf, EachLeftHolds};
+ghost use Rattle.tx_model.specs.Contents.{records_in};
+ghost use Rattle.segment_store.specs.Records.{frames_of, records_at, HasPrefixOf, EachLeftHolds};
 ghost use Rattle.segment_store.specs.Index.{count_of, starts_of, IsIndexOfAll, IsTidy, IsLoadable};
 ghost use Rattle.disk_model.specs.LoadFaults.{IsNotDamaged, HasDiskCause};
 ghost use Rattle.disk_model.specs.declared.unloaded.LoadFault.TheVariants.{Disk as Broke, Memory as NoMemory};
@@ -91,7 +92,7 @@ impl Segment {
         ensures count { OnOk result (count_of self.new ≡ count_of self.old + length records.now) }
         ensures place { (self.new.file ≡ self.old.file) × (self.new.first ≡ self.old.first) }
 
-        // A refusal leaves the segment as it was, and want of memory the disk too.
+        // A refusal leaves the segment as it was, and running out of memory the disk too.
         ensures err { OnErr result (self.new ≡ self.old) }
         ensures memory { IsErrOf result NoMemory → D.tells →
             D.history disk.new ≡ D.history disk.old }
@@ -122,7 +123,7 @@ impl Segment {
         ensures count { OnOk result (count_of self.new ≡ count_of self.old + length records.now) }
         ensures place { (self.new.file ≡ self.old.file) × (self.new.first ≡ self.old.first) }
 
-        // At each moment the other files are as they were. A refusal leaves the segment so, and want of memory the disk.
+        // At each moment the other files are as they were. A refusal leaves the segment so, and running out of memory the disk.
         ensures others { D.tells →
             EachMoment self.old.file (λ f. Unit {0}) (D.history disk.old) (D.history disk.new) }
         ensures err { OnErr result (self.new ≡ self.old) }

@@ -1,12 +1,13 @@
 //! Records by their ids.
-ghost use Rattle.std.specs.Prelude.{◌≡◌, ◌↔◌, ◌+◌, ◌-◌, ◌<◌, ◌≤◌, None, Some, Ok, Err, ℕ, List, [], length, take, drop, slice_get, slice_index, slice_index_or, IfOk, IfSome, IfNone, IsErrOf, MatchResult};
+ghost use Rattle.std.specs.Prelude.{◌≡◌, ◌↔◌, ◌+◌, ◌-◌, ◌<◌, ◌≤◌, None, Some, Ok, Err, ℕ, List, [], length, take, drop, slice_get, slice_index, slice_index_or, IfOk, IfSome, IfNone, IsErrOf, IsTrue, MatchResult};
 ghost use Rattle.std.specs.List.{AllByRecursion};
 ghost use Rattle.tx_model.specs.Records.{IsRecord, RiseByOne};
-ghost use Rattle.record_frame.specs.Framing.{record_len, framed_record};
-ghost use Rattle.disk_model.specs.Frames.{IsFrame, joined};
+ghost use Rattle.tx_model.specs.Framing.{record_len, framed_record};
+ghost use Rattle.tx_model.specs.Frames.{IsFrame, joined};
 ghost use Rattle.disk_model.specs.History.{KeepsWorking};
 ghost use Rattle.disk_model.specs.LoadFaults.{IfDamaged, IsNotDamaged, HasDiskCause};
-ghost use Rattle.segment_store.specs.Records.{records_of, records_at};
+ghost use Rattle.tx_model.specs.Contents.{records_of};
+ghost use Rattle.segment_store.specs.Records.{records_at};
 ghost use Rattle.segment_store.specs.Index.{HasId, count_of, start_of, place_of, run_length, IsIndexOf};
 ghost use Rattle.disk_model.specs.declared.unloaded.LoadFault.TheVariants.{Disk as Broke};
 
@@ -77,6 +78,13 @@ impl Segment {
     {
         let k = id.checked_sub(self.first)? as usize;
         if k < self.starts.len() { Some(k) } else { None }
+    }
+
+    /// Whether it has a record with this id.
+    pub fn has(&self, id: u64) -> bool
+        ensures { IsTrue result ↔ HasId self.now id }
+    {
+        self.index_of(id).is_some()
     }
 
     // How many of so many ids from one on it has.

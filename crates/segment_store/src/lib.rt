@@ -5,8 +5,12 @@
 
 mod appending;
 mod getting;
+mod laws;
 mod loading;
+mod reading;
 mod segment;
 
 pub use disk_model::LoadFault as SegmentFault;
+pub use laws::{loadable_records_are_not_damaged, one_place_is_damaged};
+pub use loading::Found;
 pub use segment::Segment;

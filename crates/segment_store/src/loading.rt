@@ -1,21 +1,30 @@
-//! Loading: each frame of a file is read and checked once, a piece of the file at a time.
-ghost use Rattle.std.specs.Prelude.{◌≡◌, ◌≢◌, ℕ, List, [], ◌+◌, ◌-◌, ◌^◌, ◌<◌, ◌≤◌, ◌++◌, true, false, length, drop, IfOk, OnOk, IsErrOf};
-ghost use Rattle.record_frame.specs.Framing.{record_len};
-ghost use Rattle.disk_model.specs.Frames.{joined, frames_in, IsFirm, HasFirmFrames};
+//! Loading a file of records.
+ghost use Rattle.std.specs.Prelude.{◌≡◌, ◌+◌, ◌^◌, ◌≤◌, length, IfNone, IfOk, IfSome, OnOk, IsErrOf};
+ghost use Rattle.tx_model.specs.Framing.{record_len};
+ghost use Rattle.tx_model.specs.Frames.{joined, frames_in};
+ghost use Rattle.tx_model.specs.Contents.{IsDamagedAt};
+ghost use Rattle.disk_model.specs.Frames.{IsFirm, HasFirmFrames};
 ghost use Rattle.disk_model.specs.History.{EachMoment, KeepsWorking};
-ghost use Rattle.segment_store.specs.Records.{records_in, records_at, EachLeftHolds};
-ghost use Rattle.segment_store.specs.Index.{count_of, IsIndexOf, IsWholeIndexOf, IsTidy, IsDamagedAt, IsLoadable};
-ghost use Rattle.segment_store.specs.Loading.{IsAligned, IsReadOf};
 ghost use Rattle.disk_model.specs.LoadFaults.{IfDamaged, IsNotDamaged, IsRefusal, HasDiskCause};
 ghost use Rattle.disk_model.specs.declared.unloaded.LoadFault.TheVariants.{Disk as Broke};
+ghost use Rattle.segment_store.specs.Records.{records_at, EachLeftHolds};
+ghost use Rattle.segment_store.specs.Index.{count_of, IsIndexOf, IsWholeIndexOf, IsTidy, IsLoadable, IsDamagedWithin, IsDamagedBehind};
 
+use crate::reading::Reading;
 use crate::{Segment, SegmentFault};
-use disk_model::{Disk, Stretch};
-use record_frame::{FrameFault, check_record};
+use disk_model::Disk;
 use std::alloc::Global;
 
-/// Bytes that one call of the disk reads at most while a file is loaded.
-const PIECE: usize = 65536;
+/// What was read of a file.
+#[derive(Drop)]
+pub struct Found {
+    /// All records of the file, or those in front of the first one with a wrong id.
+    pub segment: Segment,
+    /// How many whole and right frames the file begins with, those from the wrong id on among them.
+    pub frames: u64,
+    /// Where, behind the counted records, a whole and right frame with another id than the next stands.
+    pub wrong: Option<u64>,
+}
 
 impl Segment {
     /// Reads a file whose first record has the id `first`, cuts it at the first frame that is not whole and right, and
@@ -65,29 +74,48 @@ impl Segment {
         ensures keeps { KeepsWorking D.reliable D.unfailing disk.old disk.new
             (IsErrOf result Broke) }
     {
-        let segment = Segment::read(alloc, disk, file, first, count)?;
-        segment.trim(disk)?;
-        Ok(segment)
+        let found = Segment::read(alloc, disk, file, first, count)?;
+        if let Some(at) = found.wrong {
+            return Err(SegmentFault::Damaged(file, at));
+        }
+        found.segment.trim(disk)?;
+        Ok(found.segment)
     }
 
     /// The first part of `load`: it reads, and leaves the disk as it is.
+    ///
+    /// `Damaged` comes for a place among the counted records alone. One behind them is told beside the records in front
+    /// of it, for a caller who looks at other files first.
     pub fn read<D: Disk>(
         alloc: Global,
         disk: &mut D,
         file: u32,
         first: u64,
         count: u64,
-    ) -> Result<Segment, SegmentFault>
-        ensures place { IfOk result
-            (λ s. (s.file ≡ file) × (s.first ≡ first) × (count ≤ count_of s)) }
-        ensures whole { IfOk result (λ s. D.tells →
-            IsWholeIndexOf s ((D.history disk.old).now s.file).reads) }
+    ) -> Result<Found, SegmentFault>
+        ensures place { IfOk result (λ found. (found.segment.file ≡ file)
+            × (found.segment.first ≡ first) × (count ≤ count_of found.segment)) }
+        ensures ids { IfOk result (λ found. first ≤ 2 ^ 48 → first + count_of found.segment ≤ 2 ^ 48) }
+        ensures frames { IfOk result (λ found. D.tells →
+            found.frames ≡ length (records_at (D.history disk.old) file)) }
 
-        // A place is damaged exactly so.
-        ensures loadable { OnOk result (D.tells →
-            IsLoadable first count (records_at (D.history disk.old) file)) }
+        // With no wrong id, the segment has all records of the file.
+        ensures all { IfOk result (λ found. IfNone found.wrong
+            (found.frames ≡ count_of found.segment)) }
+        ensures whole { IfOk result (λ found. IfNone found.wrong (D.tells →
+            IsWholeIndexOf found.segment ((D.history disk.old).now file).reads)) }
+        ensures loadable { IfOk result (λ found. IfNone found.wrong (D.tells →
+            IsLoadable first count (records_at (D.history disk.old) file))) }
+
+        // Behind the counted records a place is damaged exactly so, and the segment has those in front of it.
+        ensures wrong { IfOk result (λ found. IfSome found.wrong (λ at. D.tells →
+            IsIndexOf found.segment ((D.history disk.old).now file).reads
+            × (at ≡ found.segment.end)
+            × IsDamagedBehind first count ((D.history disk.old).now file).reads at)) }
+
+        // Among them a place is damaged exactly so.
         ensures damaged { IfDamaged result (λ other at. (other ≡ file) ×
-            (D.tells → IsDamagedAt first count ((D.history disk.old).now file).reads at)) }
+            (D.tells → IsDamagedWithin first count ((D.history disk.old).now file).reads at)) }
         ensures not_damaged { D.tells →
             IsLoadable first count (records_at (D.history disk.old) file) → IsNotDamaged result }
         ensures history { D.tells → D.history disk.new ≡ D.history disk.old }
@@ -95,12 +123,30 @@ impl Segment {
         ensures keeps { KeepsWorking D.reliable D.unfailing disk.old disk.new
             (IsErrOf result Broke) }
     {
-        let mut segment = Segment::new(alloc, file, first);
-        segment.read_all(disk)?;
-        if segment.count() < count {
-            return Err(SegmentFault::Damaged(file, segment.end));
+        let mut reading = Reading::new(alloc, file, first, count);
+        reading.read_all(disk)?;
+        let Reading {
+            segment,
+            frames,
+            ..
+        } = reading;
+        let right = segment.count();
+        let end = segment.end;
+        if right < count {
+            return Err(SegmentFault::Damaged(file, end));
         }
-        Ok(segment)
+        if right < frames {
+            return Ok(Found {
+                segment,
+                frames,
+                wrong: Some(end),
+            });
+        }
+        Ok(Found {
+            segment,
+            frames,
+            wrong: None,
+        })
     }
 
     /// The second part of `load`: cuts the file where the last frame ends, and syncs it, also where nothing was cut.
@@ -131,98 +177,6 @@ impl Segment {
     {
         disk.cut(self.file, self.end)?;
         disk.sync(self.file)?;
-        Ok(())
-    }
-
-    // Takes in each whole and right frame at the front of the bytes, which stand in the file where the last frame ends.
-    // Answers whether more bytes may make another.
-    fn note_all(&mut self, bytes: &[u8]) -> Result<bool, SegmentFault>
-        requires { self.old.end + length bytes.now < 2 ^ 64 }
-        ensures place { (self.new.file ≡ self.old.file) × (self.new.first ≡ self.old.first) }
-        ensures used { OnOk result ((self.old.end ≤ self.new.end)
-            × (self.new.end ≤ self.old.end + length bytes.now)) }
-        ensures index { OnOk result
-            ((all more : List ℕ) → drop self.old.end all ≡ bytes.now ++ more →
-            IsIndexOf self.old all → IsIndexOf self.new all) }
-        ensures none { OnOk result (record_len (drop (self.new.end - self.old.end) bytes.now) ≡ 0) }
-        ensures last { IfOk result (λ may_go_on. may_go_on ≡ false → (more : List ℕ) →
-            record_len (drop (self.new.end - self.old.end) bytes.now ++ more) ≡ 0) }
-        ensures damaged { IfDamaged result (λ file at. (file ≡ self.old.file) ×
-            ((all more : List ℕ) (count : ℕ) → drop self.old.end all ≡ bytes.now ++ more →
-            IsIndexOf self.old all → IsDamagedAt self.old.first count all at)) }
-        ensures no_fault { IsErrOf result Broke → ⊥ }
-    {
-        let mut rest = bytes;
-        'frames: loop {
-            match check_record(rest) {
-                Ok(len) => {
-                    self.note(rest, len)?;
-                    let (_, after) = rest.split_at(len);
-                    rest = after;
-                }
-                Err(FrameFault::Short) => return Ok(true),
-                Err(_) => return Ok(false),
-            }
-        }
-    }
-
-    // Reads the next piece of the file, and takes in what is whole. Answers whether there may be more.
-    fn read_on<D: Disk>(
-        &mut self,
-        disk: &mut D,
-        stretch: &mut Stretch,
-    ) -> Result<bool, SegmentFault>
-        requires { IsAligned self.old stretch.old }
-        ensures place { (self.new.file ≡ self.old.file) × (self.new.first ≡ self.old.first) }
-        ensures aligned { OnOk result
-            (IsAligned self.new stretch.new × (stretch.new.end ≡ stretch.old.end)) }
-        ensures progress { IfOk result (λ more. more ≡ true → stretch.old.next < stretch.new.next) }
-        ensures read { IfOk result (λ more. more ≡ true → D.tells →
-            IsReadOf self.old stretch.old ((D.history disk.old).now self.old.file).reads →
-            IsReadOf self.new stretch.new ((D.history disk.old).now self.old.file).reads) }
-        ensures last { IfOk result (λ more. more ≡ false → D.tells →
-            IsReadOf self.old stretch.old ((D.history disk.old).now self.old.file).reads →
-            IsWholeIndexOf self.new ((D.history disk.old).now self.old.file).reads) }
-        ensures damaged { IfDamaged result (λ file at. (file ≡ self.old.file) ×
-            (D.tells → (count : ℕ) → IsReadOf self.old stretch.old
-            ((D.history disk.old).now self.old.file).reads →
-            IsDamagedAt self.old.first count ((D.history disk.old).now self.old.file).reads at)) }
-        ensures history { D.tells → D.history disk.new ≡ D.history disk.old }
-        ensures cause { HasDiskCause (D.faults disk.old) (D.faults disk.new) result }
-        ensures keeps { KeepsWorking D.reliable D.unfailing disk.old disk.new
-            (IsErrOf result Broke) }
-    {
-        if stretch.refill(disk)? == 0 {
-            return Ok(false);
-        }
-        let before = self.end;
-        let more = self.note_all(&stretch.bytes)?;
-        stretch.forget((self.end - before) as usize);
-        Ok(more)
-    }
-
-    // Takes in all whole and right frames from the front of the file.
-    fn read_all<D: Disk>(&mut self, disk: &mut D) -> Result<(), SegmentFault>
-        requires none { self.old.end ≡ 0 }
-        requires index { (bytes : List ℕ) → IsIndexOf self.old bytes }
-        ensures place { (self.new.file ≡ self.old.file) × (self.new.first ≡ self.old.first) }
-        ensures index { OnOk result (D.tells →
-            IsWholeIndexOf self.new ((D.history disk.old).now self.old.file).reads) }
-        ensures damaged { IfDamaged result (λ file at. (file ≡ self.old.file) ×
-            (D.tells → (count : ℕ) → IsDamagedAt self.old.first count
-            ((D.history disk.old).now self.old.file).reads at)) }
-        ensures history { D.tells → D.history disk.new ≡ D.history disk.old }
-        ensures cause { HasDiskCause (D.faults disk.old) (D.faults disk.new) result }
-        ensures keeps { KeepsWorking D.reliable D.unfailing disk.old disk.new
-            (IsErrOf result Broke) }
-    {
-        let len = disk.len(self.file)?;
-        let mut stretch = Stretch::new(self.alloc, self.file, self.end, len, PIECE)?;
-        'pieces: while stretch.next < stretch.end {
-            if !self.read_on(disk, &mut stretch)? {
-                return Ok(());
-            }
-        }
         Ok(())
     }
 }

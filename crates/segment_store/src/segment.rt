@@ -1,13 +1,8 @@
 //! A segment, and what is known of its records without the disk.
-ghost use Rattle.std.specs.Prelude.{◌≡◌, ◌⊎◌, ◌↔◌, ℕ, List, ◌+◌, ◌-◌, ◌^◌, ◌<◌, ◌≤◌, ◌++◌, [], ◌∷◌, min, length, drop, OnOk, OnErr, IsErrOf, IsTrue};
-ghost use Rattle.record_frame.specs.Framing.{record_len};
-ghost use Rattle.segment_store.specs.Index.{count_of, IsIndexOf, IsDamagedAt};
-ghost use Rattle.disk_model.specs.LoadFaults.{IfDamaged};
-ghost use Rattle.disk_model.specs.declared.unloaded.LoadFault.TheVariants.{Disk as Broke};
+ghost use Rattle.std.specs.Prelude.{◌≡◌, ◌↔◌, ℕ, List, ◌+◌, ◌^◌, ◌<◌, [], min, drop, OnErr, OnOk, IsTrue};
+ghost use Rattle.segment_store.specs.Index.{count_of, IsIndexOf, IsNext};
 
-use crate::SegmentFault;
-use record_frame::framed_id;
-use std::alloc::Global;
+use std::alloc::{AllocError, Global};
 use std::marker::Model;
 
 /// The records of one file, each in its frame, with ids that go on from a first one. It keeps where each frame begins;
@@ -44,6 +39,27 @@ impl Segment {
         }
     }
 
+    /// The id of its first record, or of the one to come.
+    pub fn first(&self) -> u64
+        ensures { result ≡ self.now.first }
+    {
+        self.first
+    }
+
+    /// Its file.
+    pub fn file(&self) -> u32
+        ensures { result ≡ self.now.file }
+    {
+        self.file
+    }
+
+    /// Where its last frame ends in the file.
+    pub fn end(&self) -> u64
+        ensures { result ≡ self.now.end }
+    {
+        self.end
+    }
+
     /// How many records it has.
     pub fn count(&self) -> u64
         ensures { result ≡ count_of self.now }
@@ -64,30 +80,22 @@ impl Segment {
     }
 
     // Whether it is the id of the record after the last.
-    fn is_next(&self, id: u64) -> bool
+    pub(crate) fn is_next(&self, id: u64) -> bool
         ensures { IsTrue result ↔ (id ≡ self.now.first + count_of self.now) }
     {
         self.first <= id && id - self.first == self.count()
     }
 
-    // Takes in the record whose whole and right frame, with this length, stands at the front of the bytes. They stand in
-    // the file where the last frame ends.
-    pub(crate) fn note(&mut self, bytes: &[u8], len: usize) -> Result<(), SegmentFault>
-        requires frame { (len ≡ record_len bytes.now) × (0 < len) }
+    // Takes in the next record, whose frame has this length and stands where the last frame ends.
+    pub(crate) fn note(&mut self, len: usize) -> Result<(), AllocError>
         requires room { self.old.end + len < 2 ^ 64 }
         ensures place { (self.new.file ≡ self.old.file) × (self.new.first ≡ self.old.first) }
+        ensures count { OnOk result (count_of self.new ≡ count_of self.old + 1) }
         ensures end { OnOk result (self.new.end ≡ self.old.end + len) }
-        ensures index { OnOk result
-            ((all more : List ℕ) → drop self.old.end all ≡ bytes.now ++ more →
-            IsIndexOf self.old all → IsIndexOf self.new all) }
-        ensures damaged { IfDamaged result (λ file at. (file ≡ self.old.file) ×
-            ((all more : List ℕ) (count : ℕ) → drop self.old.end all ≡ bytes.now ++ more →
-            IsIndexOf self.old all → IsDamagedAt self.old.first count all at)) }
-        ensures no_fault { IsErrOf result Broke → ⊥ }
+        ensures index { OnOk result ((all : List ℕ) → IsIndexOf self.old all →
+            IsNext self.old len (drop self.old.end all) → IsIndexOf self.new all) }
+        ensures err { OnErr result (self.new ≡ self.old) }
     {
-        if !self.is_next(framed_id(bytes)) {
-            return Err(SegmentFault::Damaged(self.file, self.end));
-        }
         self.starts.push(self.end)?;
         self.end += len as u64;
         Ok(())

@@ -2,4 +2,5 @@ pub mod Choosing
 pub mod Parts
 pub mod Counts
 pub mod Knowing
+pub mod SoundSteps
 pub mod Recoveries

@@ -27,10 +27,6 @@ pub record Rest : Type 0 where
 abbrev pub nothing_else : Rest
 nothing_else = record { log = []; acked = λ i. 0; waiting = [] }
 
--- a log, and nothing acknowledged
-abbrev pub only : List Record → Rest
-only log = record nothing_else { log = log }
-
 -- rows and slots are those of a lock table, of which recovery makes no use
 abbrev pub config_of : Known → Config
 config_of k = record { nodes = k.nodes; rows = 0; slots = 0 }

@@ -3,8 +3,10 @@
 
 mod batches;
 mod choice;
+mod draft;
 mod nodes;
 mod recovery;
 
+pub use draft::Draft;
 pub use nodes::Nodes;
 pub use recovery::Recovery;

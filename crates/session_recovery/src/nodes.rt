@@ -1,19 +1,17 @@
-ghost use Rattle.std.specs.Prelude.{◌≡◌, ◌≤◌, ◌<◌, ◌==◌, max, nat_le, if◌then◌else◌, true, false, length, slice_index, slice_index_or, IfOk, IfSome, IfNone};
-ghost use Rattle.tx_model.specs.Records.{RiseByOne};
+ghost use Rattle.std.specs.Prelude.{◌≡◌, ◌≢◌, ◌≤◌, ◌<◌, ◌==◌, max, nat_le, if◌then◌else◌, true, false, length, slice_index, slice_index_or, ℕ, Some, IfSome, IfNone};
 ghost use Rattle.proto_model.specs.declared.message.Phase.TheVariants.{Fetching};
 ghost use Rattle.proto_model.specs.Choices.{recovery_choice, IsChosen};
 ghost use Rattle.proto_model.specs.Quorums.{count, quorum};
 ghost use Rattle.proto_model.specs.Servers.{after_report, after_staged, chosen_len, begun, drawn, has_fetched, idle_server, length_of, takes_ack, takes_records};
-ghost use Rattle.proto_model.specs.Sending.{fetching_message, next_message, repair_message};
+ghost use Rattle.proto_model.specs.Sending.{chosen_message, fetching_message, next_message};
 ghost use Rattle.proto_model.specs.Tables.{put};
-ghost use Rattle.session_recovery.specs.Known.{column, nothing_else, only, config_of, server_of, Rest};
+ghost use Rattle.session_recovery.specs.Known.{column, nothing_else, config_of, server_of, Rest};
+ghost use Rattle.session_recovery.specs.Drafts.{drafted, AreThere};
 
-use crate::batches::batch_after;
+use crate::Draft;
 use crate::choice::{length_of, phase_fetched, phase_reported, recovery_choice};
 use proto_model::{Phase, Report, ToNode};
-use std::alloc::{AllocError, Global};
 use std::marker::Model;
-use tx_model::Record;
 
 /// What a server knows of the nodes of its session: their reports, and how far each one has come to have the chosen
 /// log. The log itself is kept elsewhere.
@@ -80,6 +78,13 @@ impl Nodes {
         idle
     }
 
+    /// How many nodes there are.
+    pub fn count(&self) -> u8
+        ensures { result ≡ self.now.nodes }
+    {
+        self.nodes
+    }
+
     pub fn session(&self) -> u64
         ensures { result ≡ self.now.session }
     {
@@ -116,7 +121,8 @@ impl Nodes {
     /// There is none before a quorum reported.
     pub fn chosen(&self) -> Option<Report>
         ensures value { result ≡ recovery_choice (quorum self.now.nodes) self.now.reports }
-        ensures chosen { IfSome result (λ choice. IsChosen (quorum self.now.nodes) self.now.reports choice) }
+        ensures chosen { IfSome result (λ choice.
+            IsChosen (quorum self.now.nodes) self.now.reports choice) }
         ensures early { IfNone result (length self.now.reports < quorum self.now.nodes) }
     {
         recovery_choice(self.nodes, &self.reports[..self.heard as usize])
@@ -129,16 +135,16 @@ impl Nodes {
         length_of(self.chosen())
     }
 
-    /// Whether records of a node, from this id on, follow the log of this length that is fetched.
-    pub fn takes_records(&self, log: &[Record], node: u8, first: u64) -> bool
-        ensures { result ≡
-            takes_records (config_of self.now) (server_of self.now (only log.now)) node first }
+    /// Whether records of a node, from this id on, follow the log that is fetched and has this length so far.
+    pub fn takes_records(&self, last: u64, node: u8, first: u64) -> bool
+        ensures { (rest : Rest) → length rest.log ≡ last →
+            result ≡ takes_records (config_of self.now) (server_of self.now rest) node first }
     {
         if !matches!(self.phase, Phase::Fetching) {
             return false;
         }
         match self.chosen() {
-            Some(report) => report.node == node && first == log.len() as u64 + 1,
+            Some(report) => report.node == node && last < first && first - last == 1,
             None => false,
         }
     }
@@ -146,7 +152,8 @@ impl Nodes {
     /// So many records of the chosen log are there.
     pub fn fetched(&mut self, length: u64)
         ensures value { (rest : Rest) → server_of self.new rest ≡ record (server_of self.old rest) {
-          phase = if length == chosen_len (config_of self.old) (server_of self.old rest) then Phase.Repairing else Phase.Fetching;
+          phase = if length == chosen_len (config_of self.old) (server_of self.old rest)
+              then Phase.Repairing else Phase.Fetching;
         } }
         ensures nodes { self.new.nodes ≡ self.old.nodes }
     {
@@ -167,23 +174,25 @@ impl Nodes {
         }
     }
 
-    /// Whether a node that says that it has this length of the log is taken at its word.
-    pub fn takes_ack(&self, log: &[Record], node: u8, length: u64) -> bool
+    /// Whether a node is taken at its word that says how much of the log it has, which has this length.
+    pub fn takes_ack(&self, last: u64, node: u8, len: u64) -> bool
         requires { node ≤ self.now.nodes }
-        ensures { result ≡
-            takes_ack (config_of self.now) (server_of self.now (only log.now)) node length }
+        ensures { (rest : Rest) → length rest.log ≡ last →
+            result ≡ takes_ack (config_of self.now) (server_of self.now rest) node len }
     {
         matches!(self.phase, Phase::Repairing | Phase::Running)
             && self.reported[node as usize]
-            && self.chosen_len() <= length
-            && length <= log.len() as u64
+            && self.chosen_len() <= len
+            && len <= last
     }
 
     /// A node adopted the chosen log. With a quorum of such nodes the server is running.
     pub fn adopted(&mut self, node: u8)
         requires { node ≤ self.old.nodes }
         ensures value { (rest : Rest) → server_of self.new rest ≡ begun (config_of self.old)
-            (record (server_of self.old rest) { adopted = put (column false self.old.adopted) node true }) }
+            (record (server_of self.old rest) {
+              adopted = put (column false self.old.adopted) node true;
+            }) }
         ensures nodes { self.new.nodes ≡ self.old.nodes }
     {
         self.adopted[node as usize] = true;
@@ -194,7 +203,8 @@ impl Nodes {
 
     /// Whether a quorum of nodes adopted.
     pub fn done(&self) -> bool
-        ensures { result ≡ nat_le (quorum self.now.nodes) (count (column false self.now.adopted) self.now.nodes) }
+        ensures { result ≡ nat_le (quorum self.now.nodes)
+            (count (column false self.now.adopted) self.now.nodes) }
     {
         adopters(self.nodes, &self.adopted) > self.nodes / 2
     }
@@ -237,19 +247,22 @@ impl Nodes {
         self.phase = Phase::Closed(session);
     }
 
-    // To the chosen node, while its log is fetched.
-    fn fetching_message(&self, log: &[Record], node: u8) -> Option<ToNode>
+    // To a node that reported, while the chosen log is fetched.
+    fn fetching_draft(&self, last: u64, node: u8) -> Option<Draft>
         requires reported { slice_index_or self.now.reported node false ≡ true }
-        requires short { length log.now < chosen_len (config_of self.now) (server_of self.now (only log.now)) }
-        ensures { result ≡
-            fetching_message (config_of self.now) (server_of self.now (only log.now)) node }
+        requires short { last < chosen_len (config_of self.now) (server_of self.now nothing_else) }
+        ensures value { (rest : Rest) → length rest.log ≡ last →
+            drafted (config_of self.now) (server_of self.now rest) node result ≡
+            fetching_message (config_of self.now) (server_of self.now rest) node }
+        ensures there { IfSome result (AreThere last) }
+        ensures other { result ≢ Some Draft.Adopted }
     {
-        let last = log.len() as u64;
         match self.chosen() {
             Some(report) => {
                 if report.node == node {
                     let most = (report.length - last).min(8);
-                    return Some(ToNode::Fetch(self.session, last + 1, most as u8));
+                    let m = ToNode::Fetch(self.session, last + 1, most as u8);
+                    return Some(Draft::Message(m));
                 }
                 None
             }
@@ -258,51 +271,52 @@ impl Nodes {
     }
 
     // To a node that reported, once the chosen log is there.
-    fn repair_message(&self, alloc: Global, log: &[Record], node: u8) -> Result<ToNode, AllocError>
+    fn repair_draft(&self, node: u8) -> Draft
         requires within { node ≤ self.now.nodes }
-        requires rise { RiseByOne 1 log.now }
-        requires long { chosen_len (config_of self.now) (server_of self.now (only log.now)) ≤ length log.now }
-        ensures { IfOk result (λ m.
-            Some m ≡ repair_message (config_of self.now) (server_of self.now (only log.now)) node) }
+        requires reported { slice_index_or self.now.reported node false ≡ true }
+        ensures value { (rest : Rest) →
+            drafted (config_of self.now) (server_of self.now rest) node (Some result) ≡
+            chosen_message (config_of self.now) (server_of self.now rest) node }
+        ensures there { (last : ℕ) →
+            chosen_len (config_of self.now) (server_of self.now nothing_else) ≤ last →
+            AreThere last result }
+        ensures adopted { result ≡ Draft.Adopted → column false self.now.adopted node ≡ true }
     {
-        let chosen_len = self.chosen_len();
-        let staged = self.staged[node as usize];
-        if staged < chosen_len {
-            let batch = batch_after(alloc, &log[..chosen_len as usize], staged)?;
-            return Ok(ToNode::Stage(self.session, batch));
+        let at = node as usize;
+        if self.adopted[at] {
+            return Draft::Adopted;
         }
-        Ok(ToNode::Adopt(self.session, chosen_len))
+        let chosen_len = self.chosen_len();
+        let staged = self.staged[at];
+        if staged < chosen_len {
+            return Draft::Stage(staged, chosen_len);
+        }
+        Draft::Message(ToNode::Adopt(self.session, chosen_len))
     }
 
-    /// The next message for a node that has not adopted the log.
-    pub fn next_for(
-        &self,
-        alloc: Global,
-        log: &[Record],
-        node: u8,
-    ) -> Result<Option<ToNode>, AllocError>
+    /// The next message for a node, where the log has this length.
+    pub fn next_for(&self, last: u64, node: u8) -> Option<Draft>
         requires within { node ≤ self.now.nodes }
-        requires behind { slice_index_or self.now.adopted node false ≡ false }
-        requires rise { RiseByOne 1 log.now }
         requires short { self.now.phase ≡ Fetching →
-            length log.now < chosen_len (config_of self.now) (server_of self.now (only log.now)) }
+            last < chosen_len (config_of self.now) (server_of self.now nothing_else) }
         requires long { has_fetched self.now.phase ≡ true →
-            chosen_len (config_of self.now) (server_of self.now (only log.now)) ≤ length log.now }
-        ensures { IfOk result (λ m. (rest : Rest) → rest.log ≡ log.now → m ≡ next_message (config_of self.now) (server_of self.now rest) node) }
+            chosen_len (config_of self.now) (server_of self.now nothing_else) ≤ last }
+        ensures value { (rest : Rest) → length rest.log ≡ last →
+            drafted (config_of self.now) (server_of self.now rest) node result ≡
+            next_message (config_of self.now) (server_of self.now rest) node }
+        ensures there { IfSome result (AreThere last) }
+        ensures adopted { result ≡ Some Draft.Adopted → column false self.now.adopted node ≡ true }
     {
         if matches!(self.phase, Phase::Idle | Phase::Closed(_)) {
-            return Ok(None);
+            return None;
         }
         if !self.reported[node as usize] {
-            return Ok(Some(ToNode::Open(self.session)));
+            return Some(Draft::Message(ToNode::Open(self.session)));
         }
         match self.phase {
-            Phase::Fetching => Ok(self.fetching_message(log, node)),
-            Phase::Repairing | Phase::Running => {
-                let m = self.repair_message(alloc, log, node)?;
-                Ok(Some(m))
-            }
-            _ => Ok(None),
+            Phase::Fetching => self.fetching_draft(last, node),
+            Phase::Repairing | Phase::Running => Some(self.repair_draft(node)),
+            _ => None,
         }
     }
 }

@@ -1,4 +1,4 @@
-ghost use Rattle.std.specs.Prelude.{◌≡◌, ◌≤◌, ◌<◌, nat_le, true, false, length, slice_index_or, IfOk, IfSome, IfNone, OnOk, OnErr};
+ghost use Rattle.std.specs.Prelude.{◌≡◌, ◌≤◌, ◌<◌, nat_le, true, length, take, drop, IfOk, IfSome, IfNone, OnOk, OnErr};
 ghost use Rattle.tx_model.specs.Records.{IsPlace};
 ghost use Rattle.tx_model.specs.Spelling.{IsCount};
 ghost use Rattle.proto_model.specs.declared.message.FromNode.TheVariants.{Adopted, Opened, Records, Staged};
@@ -9,7 +9,8 @@ ghost use Rattle.proto_model.specs.Sending.{next_message};
 ghost use Rattle.proto_model.specs.Validity.{IsValidToNode};
 ghost use Rattle.session_recovery.specs.Recovering.{config_of, state_of};
 
-use crate::Nodes;
+use crate::batches::batch_after;
+use crate::{Draft, Nodes};
 use proto_model::{Report, ToNode};
 use std::alloc::{AllocError, Global};
 use std::marker::Model;
@@ -58,7 +59,8 @@ impl Recovery {
     pub fn report(&mut self, r: Report)
         requires node { (1 ≤ r.node) × (r.node ≤ (config_of self.old).nodes) }
         requires count { IsCount r.length }
-        ensures value { state_of self.new ≡ server_after (config_of self.old) (state_of self.old) r.node
+        ensures value { state_of self.new ≡
+            server_after (config_of self.old) (state_of self.old) r.node
             (Opened (state_of self.old).session r.adopted r.low r.length) }
         ensures config { config_of self.new ≡ config_of self.old }
     {
@@ -79,7 +81,8 @@ impl Recovery {
 
     /// Records of a node came. Those of the chosen log are added, where they follow what is there.
     pub fn fetched(&mut self, from: u8, b: Batch) -> Result<(), AllocError>
-        ensures value { OnOk result (state_of self.new ≡ server_after (config_of self.old) (state_of self.old) from
+        ensures value { OnOk result (state_of self.new ≡
+            server_after (config_of self.old) (state_of self.old) from
             (Records (state_of self.old).session b)) }
         ensures config { config_of self.new ≡ config_of self.old }
         ensures err { OnErr result (self.new ≡ self.old) }
@@ -87,10 +90,11 @@ impl Recovery {
             length (server_after (config_of self.old) (state_of self.old) from
             (Records (state_of self.old).session b)).log) }
     {
-        if !self.nodes.takes_records(&self.log, from, b.first()) {
+        let last = self.log.len() as u64;
+        if !self.nodes.takes_records(last, from, b.first()) {
             return Ok(());
         }
-        let most = self.nodes.chosen_len() - self.log.len() as u64;
+        let most = self.nodes.chosen_len() - last;
         let mut records = b.into_records();
         records.truncate(most as usize);
         self.log.append(&mut records)?;
@@ -101,7 +105,8 @@ impl Recovery {
     /// A node has staged the chosen log up to this id.
     pub fn progress(&mut self, node: u8, upto: u64)
         requires { (1 ≤ node) × (node ≤ (config_of self.old).nodes) }
-        ensures value { state_of self.new ≡ server_after (config_of self.old) (state_of self.old) node
+        ensures value { state_of self.new ≡
+            server_after (config_of self.old) (state_of self.old) node
             (Staged (state_of self.old).session upto) }
         ensures config { config_of self.new ≡ config_of self.old }
     {
@@ -111,11 +116,12 @@ impl Recovery {
     /// A node says that it adopted a log of this length, which counts where it is the chosen one's.
     pub fn adopted(&mut self, node: u8, len: u64)
         requires { (1 ≤ node) × (node ≤ (config_of self.old).nodes) }
-        ensures value { state_of self.new ≡ server_after (config_of self.old) (state_of self.old) node
+        ensures value { state_of self.new ≡
+            server_after (config_of self.old) (state_of self.old) node
             (Adopted (state_of self.old).session len) }
         ensures config { config_of self.new ≡ config_of self.old }
     {
-        if self.nodes.takes_ack(&self.log, node, len) {
+        if self.nodes.takes_ack(self.log.len() as u64, node, len) {
             let at = node as usize;
             self.acked[at] = self.acked[at].max(len);
             self.nodes.adopted(node);
@@ -141,6 +147,17 @@ impl Recovery {
         }
     }
 
+    // To a node that lacks records of the chosen log.
+    fn stage_message(&self, from: u64, upto: u64) -> Result<ToNode, AllocError>
+        requires some { from < upto }
+        requires within { upto ≤ length self.now.log }
+        ensures { IfOk result (λ m. m ≡ ToNode.Stage (state_of self.now).session
+            (take 8 (drop from (take upto self.now.log)))) }
+    {
+        let batch = batch_after(self.alloc, &self.log[..upto as usize], from)?;
+        Ok(ToNode::Stage(self.nodes.session(), batch))
+    }
+
     // To a node that has adopted.
     fn low_message(&self, node: u8) -> Option<ToNode>
         requires within { node ≤ (config_of self.now).nodes }
@@ -158,12 +175,18 @@ impl Recovery {
     /// comes that makes it needless.
     pub fn next_for(&self, node: u8) -> Result<Option<ToNode>, AllocError>
         requires { (1 ≤ node) × (node ≤ (config_of self.now).nodes) }
-        ensures value { IfOk result (λ m. m ≡ next_message (config_of self.now) (state_of self.now) node) }
+        ensures value { IfOk result (λ m.
+            m ≡ next_message (config_of self.now) (state_of self.now) node) }
         ensures valid { IfOk result (λ m. IfSome m IsValidToNode) }
     {
-        if self.nodes.has_adopted(node) {
-            return Ok(self.low_message(node));
+        match self.nodes.next_for(self.log.len() as u64, node) {
+            None => Ok(None),
+            Some(Draft::Message(m)) => Ok(Some(m)),
+            Some(Draft::Stage(from, upto)) => {
+                let m = self.stage_message(from, upto)?;
+                Ok(Some(m))
+            }
+            Some(Draft::Adopted) => Ok(self.low_message(node)),
         }
-        self.nodes.next_for(self.alloc, &self.log, node)
     }
 }

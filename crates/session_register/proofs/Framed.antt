@@ -9,12 +9,14 @@ use Rattle.tx_model.specs.declared.meta.Meta.TheVariants.{Value}
 use Rattle.tx_model.specs.Spelling.{meta_body, meta_frame, IsMeta, SpellsMeta}
 use Rattle.record_frame.specs.declared.fault.FrameFault.{FrameFault}
 use Rattle.record_frame.specs.Faults.{IsMetaLength}
-use Rattle.record_frame.specs.Reading.{is_meta_length, meta_in, meta_at, read_length, length_in}
-use Rattle.record_frame.specs.Framing.{meta_len, framed_meta}
+use Rattle.tx_model.specs.Reading.{is_meta_length, meta_in, length_in}
+use Rattle.record_frame.specs.Reading.{meta_at, read_length}
+use Rattle.tx_model.specs.Framing.{meta_len, framed_meta}
+use Rattle.record_frame.proofs.Lengths.{meta_len-read}
 use Rattle.record_frame.proofs.FrontFrames.{meta_len-within, meta_len-alike, framed_meta-alike, meta_at-len, meta-spelling-framed, alike, holds}
 use Rattle.record_frame.proofs.Metas.{meta_format}
-use Rattle.disk_model.specs.Frames.{IsFrame, IsFraming, joined, frames_in}
-use Rattle.disk_model.proofs.Walks.{joined-append, all-append, frames_in-joined, frames_in-step, first_frame, split}
+use Rattle.tx_model.specs.Frames.{IsFrame, IsFraming, joined, frames_in}
+use Rattle.tx_model.proofs.Walks.{joined-append, all-append, frames_in-joined, frames_in-step, first_frame, split}
 use Rattle.session_register.specs.Values.{entries_of, values_to, StandsFor, IsFront, IsAllOf, IsDamagedAt}
 
 front : (bs : List ℕ) → 0 < meta_len bs → meta_len (take (meta_len bs) bs) ≡ meta_len bs
@@ -49,8 +51,7 @@ one_frame e valid =
     )
 
 same_length : (bs : List ℕ) → read_length (meta_at bs) ≡ meta_len bs
-unfolding meta_len
-same_length bs = refl
+same_length bs = sym (meta_len-read bs)
 
 read_some : (r : Result (Meta × ℕ) FrameFault) → 0 < read_length r → (x : Meta × ℕ) × (r ≡ Ok x)
 read_some (Ok x) some = (x, refl)

@@ -1,9 +1,10 @@
 -- Loading, over the history of the file, and what is refused.
 use Rattle.std.proofs.Common.{◌≡◌, ℕ, length, take, ◌∙◌, ap}
-use Rattle.record_frame.specs.Framing.{meta_len}
+use Rattle.tx_model.specs.Framing.{meta_len}
 use Rattle.disk_model.specs.File.{IsPlain, IsSound, settled}
 use Rattle.disk_model.specs.History.{History, EachMoment, Always}
-use Rattle.disk_model.specs.Frames.{EachImage, joined, frames_in}
+use Rattle.tx_model.specs.Frames.{joined, frames_in}
+use Rattle.disk_model.specs.Frames.{EachImage}
 use Rattle.disk_model.proofs.Firm.{firm_images}
 use Rattle.disk_model.proofs.Left.{each_left}
 use Rattle.disk_model.proofs.Moments.{weaker}

@@ -6,11 +6,12 @@ use Rattle.std.proofs.lemmas.List.{append-nil}
 use Rattle.tx_model.specs.declared.meta.Meta.{Meta}
 use Rattle.tx_model.specs.declared.meta.Meta.TheVariants.{Value}
 use Rattle.tx_model.specs.Spelling.{meta_frame, IsCount}
-use Rattle.record_frame.specs.Framing.{meta_len}
+use Rattle.tx_model.specs.Framing.{meta_len}
 use Rattle.disk_model.specs.File.{File, IsImage, IsDuring, IsPlain, IsSound, settled, written, overlaid}
 use Rattle.disk_model.specs.History.{History, EachMoment, Always}
-use Rattle.disk_model.specs.Frames.{IsFrame, joined, frames_in, EachImage, IsPrefixOf}
-use Rattle.disk_model.proofs.Walks.{all-append, joined-append, frames_in-joined, split}
+use Rattle.tx_model.specs.Frames.{IsFrame, joined, frames_in, IsPrefixOf}
+use Rattle.disk_model.specs.Frames.{EachImage}
+use Rattle.tx_model.proofs.Walks.{all-append, joined-append, frames_in-joined, split}
 use Rattle.disk_model.proofs.Images.{empty, image_settled}
 use Rattle.disk_model.proofs.Left.{each_left}
 use Rattle.disk_model.proofs.Moments.{weaker}

@@ -19,7 +19,7 @@ pub record TellsRead (old new : Option ℕ) (result : Result ℕ RegisterFault) 
   pub stays : new ≡ old
   pub garbled : IsErrOf result Garbled → old ≡ None
 
--- The number is made one more where that may be, and else stays. After want of memory it is what it was.
+-- The number is made one more where that may be, and else stays. After running out of memory it is what it was.
 pub record TellsCas (from : ℕ) (old new : Option ℕ) (result : Result Cas RegisterFault) : Type 0 where
   pub answer : (n : ℕ) → old ≡ Some n → IfOk result (λ x. x ≡ cas_answer n from)
   pub after : (n : ℕ) → old ≡ Some n → OnOk result (new ≡ Some (number_after n (cas_answer n from)))

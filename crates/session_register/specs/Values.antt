@@ -3,9 +3,10 @@ use Rattle.std.specs.Prelude.{◌≡◌, ◌≢◌, ◌⊎◌, ℕ, zero, suc, �
 use Rattle.std.specs.List.{AllByRecursion}
 use Rattle.tx_model.specs.declared.meta.Meta.{Meta}
 use Rattle.tx_model.specs.declared.meta.Meta.TheVariants.{Value}
-use Rattle.record_frame.specs.Framing.{meta_len, framed_meta}
+use Rattle.tx_model.specs.Framing.{meta_len, framed_meta}
 use Rattle.disk_model.specs.File.{File}
-use Rattle.disk_model.specs.Frames.{IsFrame, IsAtRest, IsFirm, joined, frames_in}
+use Rattle.tx_model.specs.Frames.{IsFrame, joined, frames_in}
+use Rattle.disk_model.specs.Frames.{IsAtRest, IsFirm}
 use Rattle.disk_model.specs.Chance.{EachLeft}
 
 -- the entries of these frames

@@ -138,7 +138,7 @@ impl<D: Disk> Register for DiskRegister<D> {
         ensures every_image { OnOk result (D.tells → (image : List ℕ) →
             IsImage ((D.history self.new.disk).now 0) image → StandsFor image self.new.number) }
 
-        // The disk is called only where the session may be won, and want of memory leaves it as it was.
+        // The disk is called only where the session may be won, and running out of memory leaves it as it was.
         ensures unchanged { self.old.failed ≡ false →
             cas_answer self.old.number from ≢ Cas.Won (self.old.number + 1) → self.new ≡ self.old }
         ensures memory { result ≡ Err NoMemory → D.tells →

@@ -1,10 +1,11 @@
 //! The entries of a register's file: Value 1, 2, 3 and so on.
 ghost use Rattle.std.specs.Prelude.{◌≡◌, ℕ, ◌+◌, ◌<◌, length, drop, IfOk, IfSome, IfNone, OnOk, IsErr, IsErrOf};
 ghost use Rattle.tx_model.specs.Spelling.{IsCount, IsMeta};
-ghost use Rattle.record_frame.specs.Framing.{meta_len, framed_meta};
+ghost use Rattle.tx_model.specs.Framing.{meta_len, framed_meta};
 ghost use Rattle.io_core.specs.Causes.{HasCause, HasCauseOrMemory};
 ghost use Rattle.io_core.specs.declared.fault.Fault.TheVariants.{Failed as Failing, Memory as NoMemory};
-ghost use Rattle.disk_model.specs.Frames.{HasFirmFrames, joined, frames_in};
+ghost use Rattle.tx_model.specs.Frames.{joined, frames_in};
+ghost use Rattle.disk_model.specs.Frames.{HasFirmFrames};
 ghost use Rattle.disk_model.specs.History.{EachMoment, KeepsWorking};
 ghost use Rattle.disk_model.specs.LoadFaults.{IfDamaged, IsNotDamaged, IsRefusal, HasDiskCause};
 ghost use Rattle.disk_model.specs.declared.unloaded.LoadFault.TheVariants.{Disk as Broke};

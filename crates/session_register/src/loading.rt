@@ -1,6 +1,6 @@
 //! Loading: the entries of file 0 are read, the file is cut behind the last of them and synced, also where nothing was cut.
 ghost use Rattle.std.specs.Prelude.{◌≡◌, ℕ, List, false, IfOk, IsErrOf};
-ghost use Rattle.record_frame.specs.Framing.{meta_len};
+ghost use Rattle.tx_model.specs.Framing.{meta_len};
 ghost use Rattle.disk_model.specs.File.{IsImage};
 ghost use Rattle.disk_model.specs.Frames.{HasFirmFrames};
 ghost use Rattle.disk_model.specs.History.{EachMoment, KeepsWorking};

@@ -55,7 +55,7 @@ pub trait Register {
     /// The number that it holds, where it tells it. One that others change between two calls doesn't.
     ghost told: { Self → Option ℕ };
 
-    /// How often a call has failed, up to the greatest `u64`. Want of memory is no fault.
+    /// How often a call has failed, up to the greatest `u64`. Running out of memory is no fault.
     ghost faults: { Self → ℕ };
 
     /// The number that it holds.

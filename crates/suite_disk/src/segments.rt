@@ -169,6 +169,54 @@ fn a_place_is_damaged_or_begins_the_tail(rt: HostRuntime) -> Result<(), Fail> {
     Ok(())
 }
 
+// How many records are read, how many frames stand there, and where the first wrong id does behind those that are
+// needed.
+type Read = Result<(u64, u64, Option<u64>), SegmentFault>;
+
+// What is read of such a disk, and how many records are loaded.
+fn read(
+    alloc: Global,
+    ids: &[u64],
+    changed: usize,
+    count: u64,
+) -> Result<(Read, Result<u64, SegmentFault>), Fail> {
+    let mut disk = disk_with(alloc, ids, changed)?;
+    let found = Segment::read(alloc, &mut disk, 2, 1, count);
+    let loaded = Segment::load(alloc, &mut disk, 2, 1, count);
+    Ok((
+        found.map(|f| (f.segment.count(), f.frames, f.wrong)),
+        loaded.map(|s| s.count()),
+    ))
+}
+
+#[test]
+fn a_wrong_id_behind_those_that_are_needed_is_kept(rt: HostRuntime) -> Result<(), Fail> {
+    let none = 999;
+    let first = Err(SegmentFault::Damaged(2, 0));
+    let second = Err(SegmentFault::Damaged(2, 68));
+    let cases = [
+        // With none needed the first id is wrong, or the second; then only frames are counted.
+        ([2].as_slice(), none, 0, (Ok((0, 1, Some(0))), first)),
+        (&[1, 3, 3], none, 0, (Ok((1, 3, Some(68))), second)),
+        (&[1, 3, 2], none, 1, (Ok((1, 3, Some(68))), second)),
+        // With two needed it is one of them.
+        (
+            &[1, 3, 3],
+            none,
+            2,
+            (Err(SegmentFault::Damaged(2, 68)), second),
+        ),
+        // Frames up to the first wrong check, or all.
+        (&[1, 3, 3], 150, 1, (Ok((1, 2, Some(68))), second)),
+        (&[1, 3], 100, 1, (Ok((1, 1, None)), Ok(1))),
+        (&[1, 2], none, 1, (Ok((2, 2, None)), Ok(2))),
+    ];
+    for (ids, changed, count, want) in cases {
+        assert!(rt; read(rt.alloc(), ids, changed, count)? == want);
+    }
+    Ok(())
+}
+
 // The ids of a run of a segment that has the records 5, 6 and 7, or the first ones of them.
 fn run_of(alloc: Global, kept: u64, from: u64, count: u8) -> Result<Vec<u64>, Fail> {
     let mut disk = disk_with(alloc, &[5, 6, 7], 999)?;

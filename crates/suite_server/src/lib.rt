@@ -1,4 +1,4 @@
-//! Tests of the lock table, recovery, the partition server, the application and the client, over what their crates make public.
+//! Tests of the lock table, recovery, the window, the partition server, the application and the client, over what their crates make public.
 #![tactic(auto)]
 
 #[cfg(test)]
@@ -11,3 +11,5 @@ mod locks;
 mod recovery;
 #[cfg(test)]
 mod server;
+#[cfg(test)]
+mod window;

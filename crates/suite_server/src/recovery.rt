@@ -42,6 +42,7 @@ fn the_later_session_is_chosen_then_the_longer_log_then_the_lesser_node(rt: Host
         ((2, 6, 9), (1, 5, 10), Some(2)),
         ((3, 5, 9), (2, 5, 9), Some(2)),
         ((2, 5, 9), (3, 5, 9), Some(2)),
+        ((2, 5, 9), (1, 5, 9), Some(1)),
         ((1, 5, 9), (3, 5, 10), Some(3)),
         // No second report counts: of the same node, or of one that adopted in the session.
         ((1, 5, 10), (1, 6, 9), None),

@@ -1,8 +1,8 @@
 ghost use Rattle.std.specs.Prelude.{◌≡◌, ◌≤◌, ◌<◌, IfOk};
 ghost use Rattle.proto_model.specs.Validity.{IsValidFromNode};
 
-use partition_server::{AppendFault, ReadFault, Server, append_uncounted, recovery_choice};
-use proto_model::{FromNode, FromServer, Phase, ReadRefusal, Report, ToNode, ToServer};
+use partition_server::{AppendFault, ReadFault, Server, append_uncounted};
+use proto_model::{FromNode, FromServer, Phase, ReadRefusal, ToNode, ToServer};
 use std::alloc::{AllocError, Global};
 use std::marker::Brand;
 use std::sync::ledger::{Blank, Ledger};
@@ -99,7 +99,7 @@ fn heard(node: u8, session: u8, reply: Reply, phase: Phase, next: [Sent; 3]) -> 
 
 // A server of three nodes in a session.
 fn opening(alloc: Global, session: u8) -> Result<Server, Fail>
-    ensures { IfOk result (λ server. server.nodes ≡ 3) }
+    ensures { IfOk result (λ server. server.known.nodes ≡ 3) }
 {
     let mut server = Server::new(alloc, 3, 2, 64)?;
     server.drew(u64::from(session.max(1)));
@@ -108,7 +108,7 @@ fn opening(alloc: Global, session: u8) -> Result<Server, Fail>
 
 // The next message for a node of three.
 fn next(server: &Server, node: u8) -> Result<Sent, AllocError>
-    requires nodes { server.now.nodes ≡ 3 }
+    requires nodes { server.now.known.nodes ≡ 3 }
     requires some { 1 ≤ node }
     requires within { node ≤ 3 }
 {
@@ -126,8 +126,8 @@ fn answered(
     session: u8,
     reply: Reply,
 ) -> Result<usize, Fail>
-    requires { server.old.nodes ≡ 3 }
-    ensures { server.new.nodes ≡ 3 }
+    requires { server.old.known.nodes ≡ 3 }
+    ensures { server.new.known.nodes ≡ 3 }
 {
     let m = message(alloc, session, reply)?;
     Ok(server.receive(node.clamp(1, 3), m)?.len())
@@ -135,8 +135,8 @@ fn answered(
 
 // Takes a turn. Whether it answers no request, and all is as told after it.
 fn goes_as_told(alloc: Global, server: &mut Server, turn: &Turn) -> Result<bool, Fail>
-    requires { server.old.nodes ≡ 3 }
-    ensures { server.new.nodes ≡ 3 }
+    requires { server.old.known.nodes ≡ 3 }
+    ensures { server.new.known.nodes ≡ 3 }
 {
     let count = answered(alloc, server, turn.node, turn.session, turn.reply)?;
     let sent = [next(server, 1)?, next(server, 2)?, next(server, 3)?];
@@ -145,8 +145,8 @@ fn goes_as_told(alloc: Global, server: &mut Server, turn: &Turn) -> Result<bool,
 
 // The first turn that does not go as told.
 fn first_other(alloc: Global, server: &mut Server, turns: &[Turn]) -> Result<Option<usize>, Fail>
-    requires { server.old.nodes ≡ 3 }
-    ensures { server.new.nodes ≡ 3 }
+    requires { server.old.known.nodes ≡ 3 }
+    ensures { server.new.known.nodes ≡ 3 }
 {
     for at in 0..turns.len() {
         if !goes_as_told(alloc, server, &turns[at])? {
@@ -162,26 +162,6 @@ fn marks(server: &Server) -> (u64, u64, u64) {
 }
 
 // ---- sessions
-
-fn report(node: u8, adopted: u64, length: u64) -> Report {
-    Report {
-        node,
-        adopted,
-        low: 0,
-        length,
-    }
-}
-
-#[test]
-fn the_later_log_is_chosen(rt: HostRuntime) {
-    for (first, second) in [
-        (report(1, 5, 10), report(2, 6, 9)),
-        (report(2, 5, 9), report(1, 5, 9)),
-    ] {
-        assert!(rt; recovery_choice(3, &[first, second]) == Some(second));
-        assert!(rt; recovery_choice(3, &[first]) == None);
-    }
-}
 
 const NONE: Sent = Sent::Nothing;
 
@@ -306,7 +286,7 @@ fn transaction(alloc: Global, name: &[u8], mark: u64) -> Result<Tx, Fail> {
 }
 
 fn append(alloc: Global, server: &mut Server, name: &[u8], mark: u64) -> Result<Taking, Fail>
-    ensures { server.new.nodes ≡ server.old.nodes }
+    ensures { server.new.known.nodes ≡ server.old.known.nodes }
 {
     let tx = transaction(alloc, name, mark)?;
     Ok(what_became(append_uncounted(server, tx)))
@@ -354,7 +334,7 @@ fn all_reads(server: &Server, id: u64) -> Reads {
 
 // A running server of three nodes, of which 1 and 2 adopted the empty log.
 fn running(alloc: Global) -> Result<Server, Fail>
-    ensures { IfOk result (λ server. server.nodes ≡ 3) }
+    ensures { IfOk result (λ server. server.known.nodes ≡ 3) }
 {
     let mut server = opening(alloc, 1)?;
     for (node, reply) in [
@@ -370,7 +350,7 @@ fn running(alloc: Global) -> Result<Server, Fail>
 
 // What is sent to node 2, of how many messages in all.
 fn sent_at_once(server: &Server) -> Result<(usize, Sent), Fail>
-    requires { server.now.nodes ≡ 3 }
+    requires { server.now.known.nodes ≡ 3 }
 {
     let sent = server.tick()?;
     Ok((sent.len(), next(server, 2)?))
@@ -378,8 +358,8 @@ fn sent_at_once(server: &Server) -> Result<(usize, Sent), Fail>
 
 // The client's number, the request and the id of the answer that an acknowledgement of a node makes due.
 fn committed_by(server: &mut Server, node: u8) -> Result<Option<(u64, u64, u64)>, Fail>
-    requires { server.old.nodes ≡ 3 }
-    ensures { server.new.nodes ≡ 3 }
+    requires { server.old.known.nodes ≡ 3 }
+    ensures { server.new.known.nodes ≡ 3 }
 {
     let answers = server.receive(node.clamp(1, 3), FromNode::Acked(1, 1))?;
     Ok(match answers.first() {
@@ -390,7 +370,7 @@ fn committed_by(server: &mut Server, node: u8) -> Result<Option<(u64, u64, u64)>
 
 // A running server that has sent a record of a client's request to its nodes.
 fn having_one_record(alloc: Global) -> Result<Server, Fail>
-    ensures { IfOk result (λ server. server.nodes ≡ 3) }
+    ensures { IfOk result (λ server. server.known.nodes ≡ 3) }
 {
     let mut server = running(alloc)?;
     let m = ToServer::Append(transaction(alloc, b"a", 0)?);
@@ -400,7 +380,7 @@ fn having_one_record(alloc: Global) -> Result<Server, Fail>
 
 // The same of node 1, then of node 2 and of node 2 once more.
 fn committed_by_each(server: &mut Server) -> Result<[Option<(u64, u64, u64)>; 3], Fail>
-    requires { server.old.nodes ≡ 3 }
+    requires { server.old.known.nodes ≡ 3 }
 {
     Ok([
         committed_by(server, 1)?,
@@ -461,8 +441,8 @@ fn a_mark_is_not_ahead(rt: HostRuntime) -> Result<(), Fail> {
 
 // The first id up to 1,024 that is not given.
 fn fill(alloc: Global, server: &mut Server) -> Result<Option<u64>, Fail>
-    requires { server.old.nodes ≡ 3 }
-    ensures { server.new.nodes ≡ 3 }
+    requires { server.old.known.nodes ≡ 3 }
+    ensures { server.new.known.nodes ≡ 3 }
 {
     for id in 1..1025 {
         if append(alloc, server, b"", 0)? != Taking::Taken(id) {
@@ -478,7 +458,7 @@ fn at_the_full_window(
     alloc: Global,
     server: &mut Server,
 ) -> Result<(Taking, [usize; 2], Taking), Fail>
-    requires { server.old.nodes ≡ 3 }
+    requires { server.old.known.nodes ≡ 3 }
 {
     let full = append(alloc, server, b"", 0)?;
     let counts = [

@@ -1,4 +1,4 @@
-//! Tests of transactions, frames, messages and numbers, over what their crates make public.
+//! Tests of transactions, frames, messages, numbers, ports and links, over what their crates make public.
 #![tactic(auto)]
 
 #[cfg(test)]
@@ -7,5 +7,7 @@ mod frames;
 mod messages;
 #[cfg(test)]
 mod numbers;
+#[cfg(test)]
+mod ports;
 #[cfg(test)]
 mod transactions;

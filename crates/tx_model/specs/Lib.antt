@@ -2,6 +2,10 @@ pub mod Transactions
 pub mod TxLayout
 pub mod Records
 pub mod Spelling
+pub mod Frames
+pub mod Reading
+pub mod Framing
+pub mod Contents
 pub mod Logs
 pub mod Hashes
 pub mod Probes

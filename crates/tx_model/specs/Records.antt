@@ -1,5 +1,5 @@
 -- Records and their heads, logs and batches.
-use Rattle.std.specs.Prelude.{◌≡◌, ℕ, ◌+◌, ◌≤◌, ◌<◌, ◌^◌, ◌-◌, List, [], ◌∷◌, length, slice_index_or}
+use Rattle.std.specs.Prelude.{◌≡◌, ℕ, ◌+◌, ◌≤◌, ◌<◌, ◌^◌, ◌-◌, Bool, true, ◌&&◌, ◌==◌, List, [], ◌∷◌, length, slice_index_or}
 use Rattle.tx_model.specs.declared.record.Record.{Record}
 use Rattle.tx_model.specs.declared.record.Head.{Head}
 use Rattle.tx_model.specs.Transactions.{IsTransaction}
@@ -44,3 +44,8 @@ pub record IsFirstGap (records : List Record) (at : ℕ) : Type 0 where
   pub within : at < length records
   pub gap : (other : Record) → (slice_index_or records at other).id ≡ (slice_index_or records (at - 1) other).id + 1 → ⊥
   pub first : (k : ℕ) (other : Record) → 1 ≤ k → k < at → (slice_index_or records k other).id ≡ (slice_index_or records (k - 1) other).id + 1
+
+-- the same of the ids alone
+unfoldable pub ids_rise : ℕ → List Record → Bool
+ids_rise id [] = true
+ids_rise id (r ∷ records) = (r.id == id) && ids_rise (id + 1) records

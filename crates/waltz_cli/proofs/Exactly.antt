@@ -180,7 +180,7 @@ reported whole refused end h0 h1 h2 written waiting text status so is held told 
 reported whole refused end h0 h1 h2 written waiting text status so is held told (inr (inr p)) =
     inr (inr (broken_by refused whole status so p.0, part_text h0 h1 h2 written waiting text (last_line end) held p.1 told))
 
--- want of memory, with the whole text told
+-- running out of memory, with the whole text told
 memory_told : (whole refused : Type 0) (h0 h1 h2 : Option (List ℕ)) (written waiting text : List ℕ) (status : ℕ) → (refused → whole) → Appends h0 h1 written → written ++ waiting ≡ text → Finishes refused h1 h2 waiting Memory status → Prints whole Memory h0 h2 text status
 memory_told whole refused h0 h1 h2 written waiting text status so held told (inl p) =
     inr (inl (p.0, rw append-nil at (whole_text h0 h1 h2 written waiting text [] held p.1 told)))
@@ -189,7 +189,7 @@ memory_told whole refused h0 h1 h2 written waiting text status so held told (inr
 memory_told whole refused h0 h1 h2 written waiting text status so held told (inr (inr p)) =
     inr (inr (broken_by refused whole status so p.0, part_text h0 h1 h2 written waiting text [] held p.1 told))
 
--- want of memory that the sink met
+-- running out of memory that the sink met
 memory_cut : (whole refused : Type 0) (h0 h1 h2 : Option (List ℕ)) (written waiting text : List ℕ) (k status : ℕ) → (refused → whole) → whole → Appends h0 h1 written → written ++ waiting ≡ take k text → Finishes refused h1 h2 waiting Memory status → Prints whole Memory h0 h2 text status
 memory_cut whole refused h0 h1 h2 written waiting text k status so met held told (inl p) =
     inr (inr (inr (p.0, met), broken_text h0 h1 h2 written waiting text k held (Appends-prefix h1 h2 (waiting ++ []) p.1) told))

@@ -4,6 +4,5 @@ pub mod Reading
 pub mod Finishing
 pub mod Going
 pub mod Exactly
-pub mod NodeLemmas
 pub mod Showing
 pub mod Building

@@ -26,7 +26,7 @@ last_line Memory = []
 abbrev pub IsBroken : ℕ → Type 0
 IsBroken status = (status ≡ 11) ⊎ (status ≡ 20)
 
--- the output failed; want of memory is so only where the sink met it
+-- the output failed; running out of memory is so only where the sink met it
 abbrev pub IsBrokenBy : Type 0 → ℕ → Type 0
 IsBrokenBy refused status = (status ≡ 11) ⊎ ((status ≡ 20) × refused)
 

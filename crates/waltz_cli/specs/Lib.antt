@@ -1,5 +1,4 @@
 pub mod Schedules
-pub mod Nodes
 pub mod Parties
 pub mod Views
 pub mod Ends

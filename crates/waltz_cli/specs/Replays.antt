@@ -92,7 +92,7 @@ ReadsWhere end (Some bytes) before left lines events = Reads end bytes before le
 
 -- ---- what was printed
 
--- The text and the last line of the end; or at want of memory the text alone; or a prefix, where the output failed.
+-- The text and the last line of the end; or at running out of memory the text alone; or a prefix, where the output failed.
 abbrev pub Prints : Type 0 → End → Option (List ℕ) → Option (List ℕ) → List ℕ → ℕ → Type 0
 Prints refused end held_old held_new text status =
     (IsReported end × (status ≡ status_of end) × Appends held_old held_new (text ++ last_line end))
@@ -100,7 +100,7 @@ Prints refused end held_old held_new text status =
 
 -- The lines that were read are a schedule of at most 20,000 events, its events and outcomes are a run of the world, each
 -- world of that run is safe and the one log only grows, and what is printed is the lines of these outcomes and then the
--- last line. Where the sink failed it is a prefix of such a text. refused says whether the sink met want of memory.
+-- last line. Where the sink failed it is a prefix of such a text. refused says whether the sink ran out of memory.
 pub record PrintsReplay (left_old before left_new held_old held_new : Option (List ℕ)) (refused : Type 0) (status : ℕ) : Type 0 where
   pub end : End
   pub cluster : Cluster
@@ -116,7 +116,7 @@ pub record PrintsReplay (left_old before left_new held_old held_new : Option (Li
   pub safe : IsSafeRun (start cluster ∷ worlds)
   pub text : Prints refused end held_old held_new (printed outcomes) status
 
--- Where the lines lead to an end, the status is that of this end, unless a fault or want of memory came first.
+-- Where the lines lead to an end, the status is that of this end, unless a fault or running out of memory came first.
 abbrev pub ComesExactly : Option (List ℕ) → ℕ → Type 0
 ComesExactly None status = ⊤
 ComesExactly (Some bytes) status =

@@ -166,7 +166,7 @@ EndsOf left_old left_new held_old held_new waiting_old waiting_new WriteFault = 
 EndsOf left_old left_new held_old held_new waiting_old waiting_new Memory = BreaksOff held_old held_new waiting_old waiting_new
 EndsOf left_old left_new held_old held_new waiting_old waiting_new end = LastOf left_old left_new end × Moves held_old held_new waiting_old waiting_new
 
--- What was told of a text: all of it, or a prefix where the output failed. At want of memory it is all, but where the sink met it.
+-- What was told of a text: all of it, or a prefix where the output failed. At running out of memory it is all, but where the sink met it.
 abbrev pub IsTold : Type 0 → End → List ℕ → List ℕ → Type 0
 IsTold refused WriteFault told text = (k : ℕ) × (told ≡ take k text)
 IsTold refused Memory told text = (told ≡ text) ⊎ (refused × ((k : ℕ) × (told ≡ take k text)))

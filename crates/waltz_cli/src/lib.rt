@@ -4,7 +4,6 @@
 mod end;
 mod events;
 mod input;
-mod node;
 mod output;
 mod parties;
 mod top;

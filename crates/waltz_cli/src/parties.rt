@@ -1,10 +1,10 @@
 ghost use Rattle.std.specs.Prelude.{◌≡◌, ◌∷◌, [], IfOk};
 
-use crate::node::Node;
 use client_core::Client;
 use kv_app::KvApp;
 use net_model::{Cluster, Envelope, Mail, Party};
 use partition_server::Server;
+use plain_node::Node;
 use proto_model::{FromNode, FromServer, ToNode, ToServer};
 use std::alloc::{AllocError, Global};
 
@@ -17,7 +17,7 @@ pub struct Parties {
     pub server: Server,
     pub client: Client<KvApp>,
     ghost single: { (cluster.nodes ≡ 1) × (cluster.servers ≡ 1) × (cluster.clients ≡ 1) },
-    ghost setting: { (server.nodes ≡ cluster.nodes) × (server.rows ≡ cluster.rows) × (server.slots ≡ cluster.slots) },
+    ghost setting: { (server.known.nodes ≡ cluster.nodes) × (server.rows ≡ cluster.rows) × (server.slots ≡ cluster.slots) },
     ghost number: { client.client ≡ 1 },
 }
 

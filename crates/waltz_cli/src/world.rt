@@ -144,7 +144,7 @@ impl World {
         })
     }
 
-    /// One step of the world, of the events that are read so far. Of a world that met want of memory nothing is promised.
+    /// One step of the world, of the events that are read so far. Of a world that ran out of memory nothing is promised.
     pub fn step(&mut self, event: Event) -> Result<Outcome, AllocError>
         requires in_range { IsInRange self.old.parties.cluster event }
         requires read { IsReadEvent event }

@@ -11,7 +11,7 @@ use Rattle.tx_model.specs.declared.record.Head.{Head}
 use Rattle.tx_model.specs.Records.{RiseByOne, first_id, IsBatch}
 use Rattle.tx_model.specs.Spelling.{record_body}
 use Rattle.proto_model.specs.Validity.{AreHeads}
-use Rattle.record_frame.specs.Reading.{number, is_place}
+use Rattle.tx_model.specs.Reading.{number, is_place}
 use Rattle.record_frame.proofs.Parts.{IsBytes, IsBytes-drop, place-passes, front, record-length}
 use Rattle.wire_codec.specs.Spelling.{spelled_entry, spelled_batch, spelled_head, spelled_heads}
 use Rattle.wire_codec.specs.Runs.{are_items, items_of, past_items}

@@ -11,7 +11,7 @@ use Rattle.tx_model.specs.declared.record.Head.{Head}
 use Rattle.tx_model.specs.Records.{IsRecord, RiseByOne}
 use Rattle.tx_model.specs.Spelling.{record_body}
 use Rattle.proto_model.specs.Validity.{IsHead, HeadsRise}
-use Rattle.record_frame.specs.Reading.{number, is_place, is_body, record_of, are_lists, after_reads}
+use Rattle.tx_model.specs.Reading.{number, is_place, is_body, record_of, are_lists, after_reads}
 use Rattle.record_frame.proofs.Names.{and_2, names-rise, length-names_of}
 use Rattle.record_frame.proofs.Parts.{IsBytes, IsBytes-take, IsBytes-drop, split_4, split_8, number-below_8, place-tells, place-passes, are_lists_tell, lists-spelled, lists-read, record-spelled, record-read, record-length}
 use Rattle.wire_codec.specs.Runs.{are_items, past_items}

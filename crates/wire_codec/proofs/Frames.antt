@@ -9,7 +9,8 @@ use Rattle.std.proofs.Math.Seq.{take-add}
 use Rattle.tx_model.specs.Spelling.{with_length}
 use Rattle.record_frame.specs.declared.fault.FrameFault.{FrameFault}
 use Rattle.record_frame.specs.declared.fault.FrameFault.TheVariants.{Short, Bad, Memory}
-use Rattle.record_frame.specs.Reading.{number, length_in, body_in, BeginsWith}
+use Rattle.tx_model.specs.Reading.{number, length_in, body_in}
+use Rattle.record_frame.specs.Reading.{BeginsWith}
 use Rattle.record_frame.proofs.Names.{and_2}
 use Rattle.record_frame.proofs.Parts.{IsBytes, IsBytes-take, IsBytes-drop, number-spelled_4}
 use Rattle.record_frame.proofs.Values.{done, failed}

@@ -11,7 +11,7 @@ use Rattle.proto_model.specs.declared.refusal.ReadRefusal.TheVariants as unserve
 use Rattle.proto_model.specs.declared.client_message.ToServer.TheVariants as to_server
 use Rattle.proto_model.specs.declared.client_message.FromServer.TheVariants as from_server
 use Rattle.proto_model.specs.Validity.{IsWord}
-use Rattle.record_frame.specs.Reading.{number, record_of, name_at, after_name, is_transaction}
+use Rattle.tx_model.specs.Reading.{number, record_of, name_at, after_name, is_transaction}
 use Rattle.record_frame.proofs.Names.{and_2, name-spelled, is_name_from}
 use Rattle.record_frame.proofs.Parts.{IsBytes, IsBytes-drop, split_4, split_8, number-below_8, place-tells, transaction-spelled, record-spelled}
 use Rattle.record_frame.proofs.Values.{tested}

@@ -23,7 +23,7 @@ use Rattle.proto_model.specs.declared.client_message.ToServer.TheVariants as to_
 use Rattle.proto_model.specs.declared.client_message.FromServer.{FromServer}
 use Rattle.proto_model.specs.declared.client_message.FromServer.TheVariants as from_server
 use Rattle.proto_model.specs.Validity.{IsAskedId, IsUpTo, IsWord, AreHeads, IsValidToNode, IsValidFromNode, IsValidToServer, IsValidFromServer, IsValidRefusal, IsValidReadRefusal}
-use Rattle.record_frame.specs.Reading.{number, is_place, is_next_place, is_count, name_at, after_name}
+use Rattle.tx_model.specs.Reading.{number, is_place, is_next_place, is_count, name_at, after_name}
 use Rattle.record_frame.proofs.Parts.{place-passes, transaction-read, record-read, record-length}
 use Rattle.wire_codec.specs.declared.message.ToRegister.{ToRegister}
 use Rattle.wire_codec.specs.declared.message.ToRegister.TheVariants.{Read, Cas}

@@ -11,7 +11,7 @@ use Rattle.tx_model.specs.Spelling.{IsNextPlace, IsCount}
 use Rattle.proto_model.specs.declared.message.Phase.{Phase}
 use Rattle.proto_model.specs.declared.message.Phase.TheVariants.{Idle, Opening, Fetching, Repairing, Running, Closed}
 use Rattle.proto_model.specs.Validity.{IsAskedId, IsUpTo, IsWord, IsNotRunning}
-use Rattle.record_frame.specs.Reading.{number, is_place, is_next_place, is_count}
+use Rattle.tx_model.specs.Reading.{number, is_place, is_next_place, is_count}
 use Rattle.record_frame.proofs.Names.{and_2}
 use Rattle.record_frame.proofs.Parts.{IsBytes, IsBytes-drop, split_8, number-below_8, place-tells, place-passes}
 use Rattle.record_frame.proofs.Values.{tested}

@@ -1,6 +1,7 @@
 -- When no message is read, in terms of the bytes and of the spellings alone.
 use Rattle.std.specs.Prelude.{◌≡◌, ℕ, ◌+◌, ◌<◌, ◌≤◌, ◌⊎◌, List, length}
-use Rattle.record_frame.specs.Reading.{length_in, body_in, BeginsWith}
+use Rattle.tx_model.specs.Reading.{length_in, body_in}
+use Rattle.record_frame.specs.Reading.{BeginsWith}
 use Rattle.wire_codec.specs.declared.message.Message.{Message}
 use Rattle.wire_codec.specs.Spelling.{SpellsMessageBody, SpellsMessage}
 

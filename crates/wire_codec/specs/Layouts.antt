@@ -5,7 +5,7 @@ use Rattle.proto_model.specs.declared.message.FromNode.TheVariants as from_node
 use Rattle.proto_model.specs.declared.refusal.Refusal.TheVariants as refused
 use Rattle.proto_model.specs.declared.client_message.ToServer.TheVariants as to_server
 use Rattle.proto_model.specs.declared.client_message.FromServer.TheVariants as from_server
-use Rattle.record_frame.specs.Reading.{is_body, record_of, is_transaction, transaction_of}
+use Rattle.tx_model.specs.Reading.{is_body, record_of, is_transaction, transaction_of}
 use Rattle.wire_codec.specs.declared.message.Message.{Message}
 use Rattle.wire_codec.specs.declared.message.Message.TheVariants as of
 use Rattle.wire_codec.specs.declared.layout.Layout.{Layout}

@@ -18,7 +18,7 @@ use Rattle.proto_model.specs.declared.client_message.FromServer.{FromServer}
 use Rattle.proto_model.specs.declared.client_message.FromServer.TheVariants as from_server
 use Rattle.record_frame.specs.declared.fault.FrameFault.{FrameFault}
 use Rattle.record_frame.specs.declared.fault.FrameFault.TheVariants.{Short, Bad}
-use Rattle.record_frame.specs.Reading.{number, length_in, body_in, is_place, is_next_place, is_count, is_body, record_of, is_name_at, name_at, after_name, are_lists, reads_of, writes_of, after_lists, is_transaction, transaction_of}
+use Rattle.tx_model.specs.Reading.{number, length_in, body_in, is_place, is_next_place, is_count, is_body, record_of, is_name_at, name_at, after_name, are_lists, reads_of, writes_of, after_lists, is_transaction, transaction_of}
 use Rattle.wire_codec.specs.declared.message.ToRegister.TheVariants.{Read, Cas}
 use Rattle.wire_codec.specs.declared.message.FromRegister.{FromRegister}
 use Rattle.wire_codec.specs.declared.message.FromRegister.TheVariants.{Value, Won, Lost, Exhausted}

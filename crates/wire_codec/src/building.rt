@@ -1,7 +1,7 @@
 //! Messages from the bytes of their layouts, which are known to be in form.
 ghost use Rattle.std.specs.Prelude.{◌≡◌, ◌+◌, ◌≤◌, ℕ, true, length, drop, IfOk};
 ghost use Rattle.std.specs.Int.{w32};
-ghost use Rattle.record_frame.specs.Reading.{number, is_body, are_lists};
+ghost use Rattle.tx_model.specs.Reading.{number, is_body, are_lists};
 ghost use Rattle.wire_codec.specs.Runs.{are_items, items_of};
 ghost use Rattle.wire_codec.specs.Reading.{is_entry, entry_body, entry_of, after_entry, is_batch, batch_of, is_head, head_of, after_head, are_heads, heads_of};
 ghost use Rattle.wire_codec.specs.Layouts.{value_of, is_good};

@@ -1,7 +1,7 @@
 //! Fields that are numbers, and nothing more.
 ghost use Rattle.std.specs.Prelude.{◌≡◌, ◌≢◌, length, IfSome, IfNone};
 ghost use Rattle.std.specs.Int.{w64};
-ghost use Rattle.record_frame.specs.Reading.{number};
+ghost use Rattle.tx_model.specs.Reading.{number};
 ghost use Rattle.wire_codec.specs.Reading.{is_asked_id, is_up_to, session_in, count_in, asked_id_in, session_and_count_in, session_and_next_in, request_and_id_in, phase_in};
 
 use crate::kinds::phase;

@@ -1,7 +1,7 @@
 //! Where the parts of a message stand, found without memory.
 ghost use Rattle.std.specs.Prelude.{◌≡◌, true, false, Some, drop, IfSome, IfNone};
 ghost use Rattle.std.specs.Int.{w64};
-ghost use Rattle.record_frame.specs.Reading.{number};
+ghost use Rattle.tx_model.specs.Reading.{number};
 ghost use Rattle.wire_codec.specs.Reading.{is_batch, is_session_and_batch, fetch_in, opened_in, append_in, feed_in, refused_with, unserved_with, locked_in, refusal_in, refused_in, heads_in, entry_in, read_refusal_in, unserved_in};
 ghost use Rattle.wire_codec.specs.Layouts.{Sees};
 

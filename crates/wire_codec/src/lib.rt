@@ -2,7 +2,7 @@
 //!
 //! A frame is the length of its body in four bytes, and the body: a family, a kind and the fields. Reading has two passes,
 //! as that of records has: a check, which takes no memory, finds each fault and where the parts of a message stand, and a
-//! build, which can fail only for want of memory.
+//! build, which can fail only where memory runs out.
 #![tactic(auto)]
 
 mod building;

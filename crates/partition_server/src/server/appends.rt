@@ -1,12 +1,14 @@
-ghost use Rattle.std.specs.Prelude.{◌≡◌, ◌≢◌, ◌<◌, ◌≤◌, ◌+◌, ◌*◌, ◌⊎◌, ◌++◌, ◌∷◌, [], true, length, slice_index_or, vec_len, vec_capacity, Option, None, IfOk, IfErr, OnOk, OnErr};
+ghost use Rattle.std.specs.Prelude.{◌≡◌, ◌≢◌, ◌<◌, ◌≤◌, ◌+◌, ◌*◌, ◌⊎◌, ◌++◌, ◌∷◌, [], true, length, slice_index_or, Option, None, Ok, Err, IfOk, IfErr, OnOk, OnErr};
 ghost use Rattle.tx_model.specs.Transactions.{named_locks};
 ghost use Rattle.tx_model.specs.Records.{IsPlace, IsRecord};
 ghost use Rattle.proto_model.specs.Serving.{after_append, append_refusal, assigned, last_id, no_room, refusal_in};
 ghost use Rattle.partition_server.specs.Held.{config_of, state_of};
+ghost use Rattle.partition_server.specs.Taking.{IsTakeable};
 ghost use Rattle.partition_server.specs.Faults.{refusal_of, takes_memory, IsLockRefusal, IsRefusedBy, IsValidFault};
 
 use super::Server;
-use crate::{AppendFault, Waiting};
+use crate::AppendFault;
+use feed_service::Window;
 use proto_model::{Phase, Refusal};
 use std::alloc::{AllocError, Global};
 use std::sync::ledger::Ledger;
@@ -19,13 +21,18 @@ impl Server {
     /// Assigns the next id to a transaction, whose client and request wait under it from then on, or refuses it. A
     /// refused transaction leaves no trace. Each probed row of the lock table is a step.
     pub fn append<L: Ledger>(&mut self, tx: Tx, steps: &mut Steps<L>) -> Result<u64, AppendFault>
-        ensures taken { OnOk result (append_refusal (config_of self.old) (state_of self.old) tx ≡ None) }
+        ensures taken { OnOk result
+            (append_refusal (config_of self.old) (state_of self.old) tx ≡ None) }
         ensures id { IfOk result (λ id. id ≡ length self.old.log + 1) }
         ensures after { OnOk result (state_of self.new ≡
             after_append (config_of self.old) (state_of self.old) tx) }
-        ensures setting { config_of self.new ≡ config_of self.old }
+        ensures config { config_of self.new ≡ config_of self.old }
 
-        // The refusals. Want of memory is one only where no other is, or where the lock that refuses is to be told.
+        // Nothing else stands in the way of a transaction.
+        ensures assigned { IsTakeable (config_of self.old) (state_of self.old) tx →
+            (result ≡ Ok (length self.old.log + 1)) ⊎ (result ≡ Err AppendFault.Memory) }
+
+        // The refusals. Running out of memory is one only where no other is, or where the lock that refuses is to be told.
         ensures refused { IfErr result
             (IsRefusedBy (append_refusal (config_of self.old) (state_of self.old) tx)) }
         ensures valid { IfErr result IsValidFault }
@@ -33,7 +40,7 @@ impl Server {
             takes_memory (append_refusal (config_of self.old) (state_of self.old) tx) ≡ true }
         ensures kept { OnErr result (self.new ≡ self.old) }
 
-        ensures cost { steps.new ≤ steps.old + self.old.rows * length (named_locks tx) }
+        ensures cost { steps.new ≤ steps.old + (config_of self.old).rows * length (named_locks tx) }
     {
         self.admit(&tx, steps)?;
         match self.assign(tx) {
@@ -51,12 +58,13 @@ impl Server {
         ensures valid { IfErr result IsValidFault }
         ensures memory { result ≡ Err AppendFault.Memory →
             IsLockRefusal (append_refusal (config_of self.now) (state_of self.now) tx.now) }
-        ensures running { OnOk result (self.now.phase ≡ Phase.Running) }
+        ensures running { OnOk result ((state_of self.now).phase ≡ Phase.Running) }
         ensures room { OnOk result (length self.now.log < last_id) }
-        ensures cost { steps.new ≤ steps.old + self.now.rows * length (named_locks tx.now) }
+        ensures cost { steps.new ≤
+            steps.old + (config_of self.now).rows * length (named_locks tx.now) }
     {
         self.check_running()?;
-        let last = self.log.len() as u64;
+        let last = self.log.len();
         if tx.mark() > last {
             return Err(AppendFault::MarkAhead(last));
         }
@@ -68,13 +76,13 @@ impl Server {
 
     // Whether the server takes transactions.
     fn check_running(&self) -> Result<(), AppendFault>
-        ensures running { OnOk result (self.now.phase ≡ Phase.Running) }
+        ensures running { OnOk result ((state_of self.now).phase ≡ Phase.Running) }
         ensures refused { IfErr result (λ fault. (refusal : Option Refusal) →
-            refusal_of fault ≡ refusal_in self.now.phase refusal) }
+            refusal_of fault ≡ refusal_in (state_of self.now).phase refusal) }
         ensures valid { IfErr result IsValidFault }
         ensures memory { result ≢ Err AppendFault.Memory }
     {
-        match self.phase {
+        match self.nodes.phase() {
             Phase::Running => Ok(()),
             Phase::Closed(session) => Err(AppendFault::Closed(session)),
             Phase::Idle => Err(AppendFault::NotRunning(Phase::Idle)),
@@ -86,28 +94,29 @@ impl Server {
 
     // Gives a transaction the next id.
     pub(crate) fn assign(&mut self, tx: Tx) -> Result<u64, AllocError>
-        requires running { self.old.phase ≡ Phase.Running }
+        requires running { (state_of self.old).phase ≡ Phase.Running }
         requires room { length self.old.log < last_id }
         ensures id { IfOk result (λ id. id ≡ length self.old.log + 1) }
         ensures after { OnOk result (state_of self.new ≡ assigned (state_of self.old) tx) }
-        ensures setting { config_of self.new ≡ config_of self.old }
+        ensures config { config_of self.new ≡ config_of self.old }
         ensures kept { OnErr result (self.new ≡ self.old) }
     {
-        let id = self.log.len() as u64 + 1;
-        self.log.reserve(1)?;
-        self.waiting
-            .push(Waiting::new(id, tx.client(), tx.request()))?;
+        let id = self.log.len() + 1;
+        self.log.reserve()?;
+        self.waiting.add(id, tx.client(), tx.request())?;
         self.locks.note(id, &tx);
-        let entry = assigned_record(id, self.session, tx);
+        let entry = assigned_record(id, self.nodes.session(), tx);
         push_reserved(&mut self.log, entry);
         Ok(id)
     }
 }
 
 // Adds a record for which there is room.
-fn push_reserved(log: &mut Vec<Record>, entry: Record)
-    requires { vec_len log.old + 1 ≤ vec_capacity log.old }
-    ensures { log.new.items ≡ log.old.items ++ entry ∷ [] }
+fn push_reserved(log: &mut Window, entry: Record)
+    requires room { 1 ≤ log.old.room }
+    requires next { entry.id ≡ length log.old.log + 1 }
+    requires valid { IsRecord entry }
+    ensures { log.new.log ≡ log.old.log ++ entry ∷ [] }
 {
     match log.push(entry) {
         Ok(()) => {}

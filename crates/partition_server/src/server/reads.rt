@@ -1,5 +1,5 @@
-ghost use Rattle.std.specs.Prelude.{◌≡◌, ◌≢◌, ◌≤◌, ◌-◌, [], map, take, drop, Some, None, IfOk, IfErr, OnOk, OnErr};
-ghost use Rattle.tx_model.specs.Records.{IsRecord, head_of};
+ghost use Rattle.std.specs.Prelude.{◌≡◌, ◌≢◌, ◌≤◌, [], Some, None, IfOk, IfErr, OnOk};
+ghost use Rattle.tx_model.specs.Records.{IsRecord};
 ghost use Rattle.tx_model.specs.Logs.{record_at};
 ghost use Rattle.tx_model.specs.Spelling.{IsCount};
 ghost use Rattle.proto_model.specs.Validity.{AreHeads};
@@ -11,24 +11,27 @@ ghost use Rattle.partition_server.specs.Faults.{entry_refusal, feed_refusal, rea
 use super::Server;
 use crate::ReadFault;
 use proto_model::{Phase, ReadRefusal};
-use std::alloc::{AllocError, Global};
 use tx_model::{Head, Record};
 
 impl Server {
     /// The heads of committed records from an id on, so many at most, and the committed mark. From above the committed
     /// mark there are none. A closed server shows what it had committed.
     pub fn feed(&self, from: u64, max: u8) -> Result<(Vec<Head>, u64), ReadFault>
-        ensures heads { IfOk result (λ shown. shown.0.items ≡ feed (config_of self.now) (state_of self.now) from max) }
-        ensures mark { IfOk result (λ shown. shown.1 ≡ commit_mark (config_of self.now) (state_of self.now)) }
-        ensures valid { max ≤ 16 → IfOk result (λ shown. AreHeads from shown.0.items × IsCount shown.1) }
+        ensures heads { IfOk result (λ shown. shown.0.items ≡
+            feed (config_of self.now) (state_of self.now) from max) }
+        ensures mark { IfOk result (λ shown. shown.1 ≡
+            commit_mark (config_of self.now) (state_of self.now)) }
+        ensures valid { max ≤ 16 →
+            IfOk result (λ shown. AreHeads from shown.0.items × IsCount shown.1) }
         ensures shown { OnOk result (feed_refusal (state_of self.now) from ≡ None) }
-        ensures refused { IfErr result (λ fault. read_refusal_of fault ≡ feed_refusal (state_of self.now) from) }
+        ensures refused { IfErr result (λ fault.
+            read_refusal_of fault ≡ feed_refusal (state_of self.now) from) }
         ensures memory { result ≡ Err ReadFault.Memory →
             feed (config_of self.now) (state_of self.now) from max ≢ [] }
     {
         self.check_id(from)?;
         let committed = self.committed();
-        match heads_from(self.alloc, &self.log[..committed as usize], from, max) {
+        match self.log.heads(from, max, committed) {
             Ok(heads) => Ok((heads, committed)),
             Err(_) => Err(ReadFault::Memory),
         }
@@ -36,9 +39,11 @@ impl Server {
 
     /// The committed record of an id. A closed server shows what it had committed.
     pub fn entry(&self, id: u64) -> Result<Record, ReadFault>
-        ensures entry { IfOk result (λ r. record_at (committed_log (config_of self.now) (state_of self.now)) id ≡ Some r) }
+        ensures entry { IfOk result (λ r.
+            record_at (committed_log (config_of self.now) (state_of self.now)) id ≡ Some r) }
         ensures valid { IfOk result IsRecord }
-        ensures shown { OnOk result (entry_refusal (config_of self.now) (state_of self.now) id ≡ None) }
+        ensures shown { OnOk result
+            (entry_refusal (config_of self.now) (state_of self.now) id ≡ None) }
         ensures refused { IfErr result (λ fault. read_refusal_of fault ≡
             entry_refusal (config_of self.now) (state_of self.now) id) }
     {
@@ -47,18 +52,21 @@ impl Server {
         if id > committed {
             return Err(ReadFault::NotYet(committed));
         }
-        match self.log[id as usize - 1].copy(self.alloc) {
-            Ok(entry) => Ok(entry),
+        match self.log.entry(id) {
+            Ok(Some(entry)) => Ok(entry),
+            Ok(None) => unreachable!(),
             Err(_) => Err(ReadFault::Memory),
         }
     }
 
     /// The committed mark. It takes no memory.
     pub fn flush(&self) -> Result<u64, ReadFault>
-        ensures mark { IfOk result (λ mark. mark ≡ commit_mark (config_of self.now) (state_of self.now)) }
+        ensures mark { IfOk result (λ mark.
+            mark ≡ commit_mark (config_of self.now) (state_of self.now)) }
         ensures valid { IfOk result IsCount }
-        ensures shown { OnOk result (shut_in self.now.phase ≡ None) }
-        ensures refused { IfErr result (λ fault. read_refusal_of fault ≡ shut_in self.now.phase) }
+        ensures shown { OnOk result (shut_in (state_of self.now).phase ≡ None) }
+        ensures refused { IfErr result (λ fault.
+            read_refusal_of fault ≡ shut_in (state_of self.now).phase) }
         ensures memory { result ≢ Err ReadFault.Memory }
     {
         match self.shut() {
@@ -69,9 +77,9 @@ impl Server {
 
     // Why the server shows nothing, unless it shows what is committed.
     pub(super) fn shut(&self) -> Option<ReadRefusal>
-        ensures { result ≡ shut_in self.now.phase }
+        ensures { result ≡ shut_in (state_of self.now).phase }
     {
-        match self.phase {
+        match self.nodes.phase() {
             Phase::Running | Phase::Closed(_) => None,
             phase => Some(ReadRefusal::NotRunning(phase)),
         }
@@ -81,7 +89,8 @@ impl Server {
     fn check_id(&self, id: u64) -> Result<(), ReadFault>
         ensures some { OnOk result (id ≢ 0) }
         ensures ok { OnOk result (feed_refusal (state_of self.now) id ≡ None) }
-        ensures err { IfErr result (λ fault. read_refusal_of fault ≡ feed_refusal (state_of self.now) id) }
+        ensures err { IfErr result (λ fault.
+            read_refusal_of fault ≡ feed_refusal (state_of self.now) id) }
         ensures memory { result ≢ Err ReadFault.Memory }
     {
         if let Some(refusal) = self.shut() {
@@ -92,20 +101,4 @@ impl Server {
         }
         Ok(())
     }
-}
-
-// The heads of a log's records from an id on, so many at most.
-fn heads_from(alloc: Global, log: &[Record], from: u64, max: u8) -> Result<Vec<Head>, AllocError>
-    requires { from ≢ 0 }
-    ensures ok { IfOk result (λ heads. heads.items ≡ map head_of (take max (drop (from - 1) log.now))) }
-    ensures memory { OnErr result (map head_of (take max (drop (from - 1) log.now)) ≢ []) }
-{
-    let first = (from as usize - 1).min(log.len());
-    let rest = &log[first..];
-    let rest = &rest[..rest.len().min(max as usize)];
-    let mut heads = Vec::with_capacity(alloc, rest.len())?;
-    for entry in rest {
-        heads.push(entry.head(alloc)?)?;
-    }
-    Ok(heads)
 }

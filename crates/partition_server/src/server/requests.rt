@@ -21,9 +21,10 @@ impl Server {
             served_answers (config_of self.old) (state_of self.old) m.now) }
         ensures after { OnOk result (state_of self.new ≡
             served_after (config_of self.old) (state_of self.old) m.now) }
-        ensures valid { IsValidToServer m.now → IfOk result (λ answer. IfSome answer IsValidFromServer) }
+        ensures valid { IsValidToServer m.now →
+            IfOk result (λ answer. IfSome answer IsValidFromServer) }
         ensures placed { IfOk result (λ answer. IfSome answer HasPlace) }
-        ensures setting { config_of self.new ≡ config_of self.old }
+        ensures config { config_of self.new ≡ config_of self.old }
         ensures kept { OnErr result (self.new ≡ self.old) }
         ensures memory { OnErr result (serving_takes_memory
             (served_answers (config_of self.old) (state_of self.old) m.now) ≡ true) }
@@ -39,13 +40,13 @@ impl Server {
     }
 
     fn take_append(&mut self, tx: &Tx) -> Result<Option<FromServer>, AllocError>
-        ensures answers { IfOk result (λ answer. option_to_list answer ≡
-            append_answers tx.now (append_refusal (config_of self.old) (state_of self.old) tx.now)) }
+        ensures answers { IfOk result (λ answer. option_to_list answer ≡ append_answers tx.now
+            (append_refusal (config_of self.old) (state_of self.old) tx.now)) }
         ensures valid { IfOk result (λ answer. IfSome answer IsValidFromServer) }
         ensures placed { IfOk result (λ answer. IfSome answer HasPlace) }
         ensures after { OnOk result (state_of self.new ≡
             after_append (config_of self.old) (state_of self.old) tx.now) }
-        ensures setting { config_of self.new ≡ config_of self.old }
+        ensures config { config_of self.new ≡ config_of self.old }
         ensures kept { OnErr result (self.new ≡ self.old) }
         ensures memory { OnErr result (serving_takes_memory (append_answers tx.now
             (append_refusal (config_of self.old) (state_of self.old) tx.now)) ≡ true) }
@@ -61,7 +62,8 @@ impl Server {
     }
 
     fn answer_feed(&self, from: u64, max: u8) -> Result<FromServer, AllocError>
-        ensures answer { IfOk result (λ answer. answer ≡ feed_answer (config_of self.now) (state_of self.now) from max) }
+        ensures answer { IfOk result (λ answer. answer ≡
+            feed_answer (config_of self.now) (state_of self.now) from max) }
         ensures placed { IfOk result HasPlace }
         ensures memory { OnErr result
             (holds_copies (feed_answer (config_of self.now) (state_of self.now) from max) ≡ true) }
@@ -73,7 +75,8 @@ impl Server {
     }
 
     fn answer_get(&self, id: u64) -> Result<FromServer, AllocError>
-        ensures answer { IfOk result (λ answer. answer ≡ get_answer (config_of self.now) (state_of self.now) id) }
+        ensures answer { IfOk result (λ answer. answer ≡
+            get_answer (config_of self.now) (state_of self.now) id) }
         ensures placed { IfOk result HasPlace }
         ensures memory { OnErr result
             (holds_copies (get_answer (config_of self.now) (state_of self.now) id) ≡ true) }

@@ -1,12 +1,23 @@
-use Rattle.std.proofs.Common.{◌≡◌, ◌+◌, ◌++◌, List, [], ◌∷◌, ℕ, length, drop, sym, ◌∙◌, ap, arith, append_assoc, Ok}
+use Rattle.std.proofs.Common.{◌≡◌, ◌+◌, ◌++◌, List, [], ◌∷◌, ℕ, length, drop, sym, ◌∙◌, ap, subst, arith, append_assoc, length-append, Ok}
 use Rattle.std.proofs.lemmas.List.{append-nil}
 use Rattle.tx_model.specs.declared.meta.Meta.{Meta}
-use Rattle.record_frame.specs.Framing.{meta_len}
+use Rattle.tx_model.specs.Framing.{meta_len}
 use Rattle.record_frame.specs.Reading.{meta_at}
-use Rattle.disk_model.specs.Frames.{joined, frames_in}
-use Rattle.meta_journal.specs.Entries.{entries_in}
+use Rattle.tx_model.specs.Frames.{joined, frames_in}
+use Rattle.tx_model.specs.Contents.{entries_in}
+use Rattle.std.specs.Prelude.{All}
+use Rattle.std.specs.List.{flat_map}
+use Rattle.std.proofs.lemmas.List.{length-take-le}
+use Rattle.std.proofs.lemmas.List.Elements.{All-push}
+use Rattle.std.proofs.lemmas.Grind.{flat_map-append}
+use Rattle.tx_model.specs.Spelling.{IsMeta, meta_frame}
 use Rattle.meta_journal.proofs.Framed.{entries_in-step, ends-step, none-left}
 use Rattle.meta_journal.proofs.loading.decode_all.Goals as goal
+
+-- one entry more
+place-more : (es : List Meta) (e : Meta) → length (flat_map meta_frame (es ++ e ∷ [])) ≡ length (flat_map meta_frame es) + length (meta_frame e)
+place-more es e =
+    ap length (flat_map-append meta_frame es (e ∷ [])) ∙ length-append (flat_map meta_frame es) (meta_frame e ++ []) ∙ ap (λ (l : List ℕ). length (flat_map meta_frame es) + length l) (append-nil (meta_frame e))
 
 pub frames-preserved : goal.frames-preserved
 frames-preserved c =
@@ -16,6 +27,8 @@ frames-preserved c =
     let ends = ends-step c.frames.rest.now c.in-Ok.entry c.in-Ok.len is in
     let long : length c.split_at.result.1.now + c.in-Ok.len ≡ length c.frames.rest.now = omega (arith, c.split_at.ensures.back_len, ends.1) in
     let later : length (joined (frames_in meta_len c.frames.rest.now)) ≡ c.in-Ok.len + length (joined (frames_in meta_len c.split_at.result.1.now)) = ends.0 ∙ ap (λ (l : List ℕ). c.in-Ok.len + length (joined (frames_in meta_len l))) (sym back) in
+    let spelled = c.in-Ok.ensures.found in
+    let frame : length (meta_frame c.in-Ok.entry) ≡ c.in-Ok.len = ap length (sym spelled.spelled.spelled) ∙ length-take-le c.in-Ok.len c.frames.rest.now spelled.within in
     record {
       entries =
           ap (λ (l : List Meta). l ++ entries_in c.split_at.result.1.now) c.in_ok-push-in-Ok.ensures.items
@@ -25,6 +38,8 @@ frames-preserved c =
           ∙ inv.entries;
       within = omega (arith, long, inv.within);
       end = omega (arith, long, later, inv.end);
+      valid = subst (λ (l : List Meta). All IsMeta l) (sym c.in_ok-push-in-Ok.ensures.items) (All-push IsMeta c.frames.entries.items c.in-Ok.entry inv.valid spelled.spelled.valid);
+      places = omega (arith, long, inv.places, ap (λ (l : List Meta). length (flat_map meta_frame l)) c.in_ok-push-in-Ok.ensures.items, place-more c.frames.entries.items c.in-Ok.entry, frame);
     }
 
 pub returns-in-Err-clause-entries : goal.returns-in-Err-clause-entries

@@ -1,6 +1,6 @@
 use Rattle.std.proofs.Common.{◌+◌}
 use Rattle.tx_model.specs.Transactions.{are_apart}
-use Rattle.record_frame.specs.Reading.{names_of}
+use Rattle.tx_model.specs.Reading.{names_of}
 use Rattle.record_frame.proofs.Merges.{AreLeft}
 use Rattle.record_frame.proofs.layout.are_apart.Given as goal
 

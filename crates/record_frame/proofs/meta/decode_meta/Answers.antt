@@ -5,7 +5,7 @@ use Rattle.tx_model.specs.Spelling.{SpellsMeta}
 use Rattle.record_frame.specs.declared.fault.FrameFault.{FrameFault}
 use Rattle.record_frame.specs.Reading.{meta_at, BeginsWith}
 use Rattle.record_frame.specs.declared.fault.FrameFault.TheVariants.{Short}
-use Rattle.record_frame.specs.Framing.{meta_len}
+use Rattle.tx_model.specs.Framing.{meta_len}
 use Rattle.record_frame.proofs.FrontFrames.{meta-framed, meta-stays}
 use Rattle.record_frame.proofs.Parts.{IsBytes}
 use Rattle.record_frame.proofs.Metas.{meta_at-read, meta_at-spelled, meta_at-short, meta_at-bad, meta_at-memory}

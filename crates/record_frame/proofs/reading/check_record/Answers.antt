@@ -5,7 +5,7 @@ use Rattle.tx_model.specs.Spelling.{SpellsRecord}
 use Rattle.record_frame.specs.declared.fault.FrameFault.{FrameFault}
 use Rattle.record_frame.specs.declared.fault.FrameFault.TheVariants.{Short, Bad, Memory}
 use Rattle.record_frame.specs.Reading.{record_at, BeginsWith, Checks}
-use Rattle.record_frame.specs.Framing.{record_len}
+use Rattle.tx_model.specs.Framing.{record_len}
 use Rattle.record_frame.proofs.Parts.{IsBytes}
 use Rattle.record_frame.proofs.Records.{record_at-read, record_at-spelled, record_at-short, record_at-bad, record_at-memory}
 use Rattle.record_frame.proofs.Results.{checks-ok, checks-found, checks-fault}

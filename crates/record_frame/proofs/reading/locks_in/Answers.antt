@@ -1,6 +1,6 @@
 use Rattle.std.proofs.Common.{sym, ◌∙◌, ap, ◌≡◌, ◌++◌, [], ◌∷◌, List, ℕ, append_assoc}
 use Rattle.std.proofs.lemmas.List.{append-nil}
-use Rattle.record_frame.specs.Reading.{name_at}
+use Rattle.tx_model.specs.Reading.{name_at}
 use Rattle.record_frame.proofs.Names.{is_good, names_of-next, names_of-none, past_names-next, past_names-none, is_name_from}
 use Rattle.record_frame.proofs.reading.locks_in.Goals as goal
 

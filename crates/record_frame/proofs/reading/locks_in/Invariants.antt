@@ -1,5 +1,5 @@
 use Rattle.std.proofs.Common.{◌≡◌, ◌-◌, ◌++◌, true, List, ℕ}
-use Rattle.record_frame.specs.Reading.{are_names, names_of, past_names}
+use Rattle.tx_model.specs.Reading.{are_names, names_of, past_names}
 use Rattle.record_frame.proofs.reading.locks_in.Given as goal
 
 abbrev pub invariant-loop : goal.invariant-loop

@@ -2,7 +2,7 @@ use Rattle.std.proofs.Common.{◌≡◌, List, ℕ, Result, Ok, Err, sym, subst,
 use Rattle.std.specs.Prelude.{IfOk}
 use Rattle.tx_model.specs.declared.record.Record.{Record}
 use Rattle.tx_model.specs.Spelling.{SpellsRecordBody}
-use Rattle.record_frame.specs.Reading.{record_of}
+use Rattle.tx_model.specs.Reading.{record_of}
 use Rattle.record_frame.proofs.Parts.{record-spelled}
 use Rattle.record_frame.proofs.reading.record_of.Goals as goal
 

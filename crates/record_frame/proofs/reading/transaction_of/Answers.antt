@@ -1,6 +1,6 @@
 use Rattle.std.proofs.Common.{◌≡◌, sym, subst, arith, rules}
 use Rattle.tx_model.specs.Transactions.{Transaction, IsTransaction}
-use Rattle.record_frame.specs.Reading.{transaction_of}
+use Rattle.tx_model.specs.Reading.{transaction_of}
 use Rattle.record_frame.proofs.Parts.{transaction-spelled, tx_with}
 use Rattle.record_frame.proofs.reading.transaction_of.Goals as goal
 

@@ -1,5 +1,5 @@
 use Rattle.std.proofs.Common.{◌≡◌, true, arith, sym, subst}
-use Rattle.schedule_text.specs.Parts.{IsKeysWord, IsOpsWord}
+use Rattle.schedule_text.specs.Lists.{IsKeysWord, IsOpsWord}
 use Rattle.schedule_text.proofs.AppendLemmas.{behind_client, behind_server, behind_keys, no_word}
 use Rattle.schedule_text.proofs.append.append_parts.Goals as goal
 

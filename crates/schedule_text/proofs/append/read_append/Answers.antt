@@ -1,5 +1,5 @@
 use Rattle.std.proofs.Common.{refl, sym, subst, arith}
-use Rattle.schedule_text.specs.Events.{keys_spelling, ops_word}
+use Rattle.schedule_text.specs.Lists.{keys_spelling, ops_word}
 use Rattle.net_model.specs.Clusters.{IsWithin}
 use Rattle.schedule_text.proofs.AppendLemmas.{append_spelled, same_rest}
 use Rattle.schedule_text.proofs.append.read_append.Goals as goal

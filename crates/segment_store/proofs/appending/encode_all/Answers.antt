@@ -1,6 +1,6 @@
 use Rattle.std.proofs.Common.{◌≡◌, ◌+◌, ◌<◌, ◌^◌, List, ℕ, [], ◌∷◌, ◌++◌, length, take, sym, ◌∙◌, ap, arith, length-append}
 use Rattle.tx_model.specs.Spelling.{record_frame}
-use Rattle.disk_model.specs.Frames.{joined}
+use Rattle.tx_model.specs.Frames.{joined}
 use Rattle.segment_store.specs.Records.{frames_of}
 use Rattle.segment_store.specs.Index.{starts_of}
 use Rattle.segment_store.proofs.Encoded.{joined-more, starts-more}

@@ -1,5 +1,5 @@
 use Rattle.std.proofs.Common.{◌≡◌, ◌+◌, ◌^◌, ◌<◌, length, take}
-use Rattle.disk_model.specs.Frames.{joined}
+use Rattle.tx_model.specs.Frames.{joined}
 use Rattle.segment_store.specs.Records.{frames_of}
 use Rattle.segment_store.specs.Index.{starts_of}
 use Rattle.segment_store.proofs.appending.encode_all.Given as goal

@@ -1,7 +1,7 @@
 use Rattle.std.proofs.Common.{◌≡◌, ◌+◌, ℕ, length, take, ◌∙◌, ap, arith, length-append}
 use Rattle.tx_model.specs.Spelling.{record_body, record_frame}
 use Rattle.record_frame.proofs.Frames.{length-frame}
-use Rattle.disk_model.specs.Frames.{joined}
+use Rattle.tx_model.specs.Frames.{joined}
 use Rattle.segment_store.specs.Records.{frames_of}
 use Rattle.segment_store.proofs.Encoded.{joined-more}
 use Rattle.segment_store.proofs.appending.frames_len.Goals as goal

@@ -1,8 +1,8 @@
 use Rattle.std.proofs.Common.{◌≡◌, ◌≤◌, ◌-◌, List, ℕ, length}
 use Rattle.std.specs.List.{AllByRecursion}
 use Rattle.tx_model.specs.Records.{RiseByOne}
-use Rattle.record_frame.specs.Framing.{record_len}
-use Rattle.disk_model.specs.Frames.{IsFrame, joined}
+use Rattle.tx_model.specs.Framing.{record_len}
+use Rattle.tx_model.specs.Frames.{IsFrame, joined}
 use Rattle.segment_store.proofs.Got.{IsTaken}
 use Rattle.segment_store.proofs.getting.records_from.Given as goal
 

@@ -1,5 +1,5 @@
 use Rattle.std.proofs.Common.{subst}
-use Rattle.record_frame.specs.Framing.{meta_len}
+use Rattle.tx_model.specs.Framing.{meta_len}
 use Rattle.disk_model.specs.Frames.{HasFirmFrames}
 use Rattle.disk_model.specs.History.{History, EachMoment}
 use Rattle.session_register.specs.Values.{KeepsFrames}

@@ -1,7 +1,7 @@
 use Rattle.std.proofs.Common.{◌≡◌, ◌≢◌, ◌+◌, ℕ, drop, refl, sym, ◌∙◌, subst, arith, rules}
 use Rattle.tx_model.specs.declared.meta.Meta.TheVariants.{Value}
 use Rattle.tx_model.specs.Spelling.{IsMeta}
-use Rattle.record_frame.specs.Framing.{meta_len, framed_meta}
+use Rattle.tx_model.specs.Framing.{meta_len, framed_meta}
 use Rattle.disk_model.specs.History.{History}
 use Rattle.disk_model.proofs.Keeping.{kept_so_far, keeps_then}
 use Rattle.session_register.specs.Values.{IsFront}

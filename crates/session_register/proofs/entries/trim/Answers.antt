@@ -1,4 +1,4 @@
-use Rattle.record_frame.specs.Framing.{meta_len}
+use Rattle.tx_model.specs.Framing.{meta_len}
 use Rattle.disk_model.proofs.Trimmed.{trim_cuts, trim_syncs}
 use Rattle.session_register.proofs.Framed.{framing}
 use Rattle.session_register.proofs.Loaded.{trimmed_tidy}

@@ -1,7 +1,8 @@
 use Rattle.std.proofs.Common.{ℕ, ◌∙◌, ap, subst}
-use Rattle.record_frame.specs.Framing.{meta_len}
+use Rattle.tx_model.specs.Framing.{meta_len}
 use Rattle.disk_model.proofs.Trimmed.{trim_cuts, trim_syncs, trimmed, trimmed_frames, trimmed_rest}
-use Rattle.meta_journal.specs.Entries.{entries_of, IsTidy}
+use Rattle.tx_model.specs.Contents.{entries_of}
+use Rattle.meta_journal.specs.Entries.{IsTidy}
 use Rattle.meta_journal.proofs.Framed.{framing}
 use Rattle.meta_journal.proofs.Written.{firm_entries}
 use Rattle.meta_journal.proofs.journal.Journal.trim.Goals as goal

@@ -1,7 +1,8 @@
 use Rattle.std.proofs.Common.{◌+◌, ℕ, sym, ◌∙◌, subst, arith}
-use Rattle.record_frame.specs.Framing.{meta_len}
+use Rattle.tx_model.specs.Framing.{meta_len}
 use Rattle.disk_model.proofs.Left.{each_left}
-use Rattle.meta_journal.specs.Entries.{entries_of, entries_in, HasEntry, IsTidy}
+use Rattle.tx_model.specs.Contents.{entries_of, entries_in}
+use Rattle.meta_journal.specs.Entries.{HasEntry, IsTidy}
 use Rattle.meta_journal.proofs.Written.{writes, syncs, entered}
 use Rattle.meta_journal.proofs.journal.Journal.write.Goals as goal
 

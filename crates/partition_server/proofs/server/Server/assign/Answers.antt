@@ -1,30 +1,41 @@
-use Rattle.std.proofs.Common.{◌≡◌, ◌∙◌, ◌+◌, ◌++◌, ◌∷◌, [], ap, sym, subst, length, arith, rules}
-use Rattle.std.proofs.lemmas.Grind.{common_steps}
+use Rattle.std.proofs.Common.{◌≡◌, ◌∙◌, ◌+◌, ◌++◌, ◌∷◌, [], ap, sym, subst, refl, length}
 use Rattle.tx_model.specs.declared.record.Record.{Record}
-use Rattle.lock_table.specs.Tables.{Table, TableStandsFor}
+use Rattle.tx_model.specs.Records.{IsRecord}
+use Rattle.tx_model.specs.Probes.{Shape}
 use Rattle.proto_model.specs.declared.message.Phase.TheVariants.{Running}
 use Rattle.proto_model.specs.Servers.{Waiting, chosen_len}
+use Rattle.proto_model.specs.Serving.{assigned, assigned_record}
 use Rattle.proto_model.specs.Validity.{IsWord}
-use Rattle.partition_server.specs.Held.{Held, IsHeld, config_of, state_of}
-use Rattle.partition_server.specs.contracts.server.Server.{the_view}
-use Rattle.partition_server.proofs.Appends.{with_record-held}
+use Rattle.session_recovery.specs.Known.{server_of}
+use Rattle.quorum_append.specs.Kept.{length_kept}
+use Rattle.partition_server.specs.Held.{Held, config_of, state_of}
+use Rattle.partition_server.specs.Layout.{held_by}
+use Rattle.partition_server.proofs.Servings.{assigned_serves}
+use Rattle.partition_server.proofs.Helds.{changed_held, config_same}
 use Rattle.partition_server.proofs.server.Server.assign.Goals as goal
 
 pub invariant_of-self-2 : goal.invariant_of-self-2
 invariant_of-self-2 c =
-    let h : Held = the_view c.self.inside in
-    let locks : Table = c.self.inside.locks in
-    let locks' : Table = c.note.new.self in
-    let r : Record = c.assigned_record-entry.result in
-    let w : Waiting = c.new.result in
-    let running : h.phase ≡ Running = ap (λ (x : Held). x.phase) c.self.view_is ∙ c.requires.running in
-    let len : c.len.result ≡ length h.log = search rules in
-    let id : r.id ≡ length h.log + 1 = ap (λ (x : Record). x.id) c.assigned_record-entry.ensures.value ∙ ap (λ n. n + 1) len in
-    let next : w.id ≡ length h.log + 1 = ap (λ (x : Waiting). x.id) c.new.ensures ∙ ap (λ n. n + 1) len in
-    let word : IsWord w.request = subst IsWord (sym (ap (λ (x : Waiting). x.request) c.new.ensures)) c.request.type_inv in
-    let log : c.push_reserved.new.log.items ≡ h.log ++ r ∷ [] = grind (arith, common_steps) in
-    let waiting : c.push.new.self.items ≡ h.waiting ++ w ∷ [] = grind (arith, common_steps) in
-    let noted : TableStandsFor locks (chosen_len (config_of h) (state_of h)) h.log → TableStandsFor locks' (chosen_len (config_of h) (state_of h)) (h.log ++ r ∷ []) =
-    c.note.ensures.stands _ _ r (ap (λ (x : Record). x.id) c.assigned_record-entry.ensures.value) (ap (λ (x : Record). x.tx) c.assigned_record-entry.ensures.value) in
-    let all = with_record-held h locks locks' r w c.self.invariant running c.assigned_record-entry.ensures.valid id next word c.note.ensures.raised.shape noted in
-    subst (λ (x : Held). IsHeld x locks') (λ j. record h { log = sym log j; waiting = sym waiting j }) all
+    let h : Held = held_by c.self.inside in
+    let tx = c.args.tx in
+    let h' : Held = record h {
+      rows = c.note.new.self.rows;
+      slots = c.note.new.self.slots;
+      log = c.push_reserved.new.log.log;
+      waiting = c.add.new.self;
+    } in
+    let running : h.known.phase ≡ Running = ap (λ (x : Held). x.known.phase) c.self.view_is ∙ c.requires.running in
+    let id : c.len-id.result + 1 ≡ length h.log + 1 = ap (λ n. n + 1) c.len-id.ensures.value in
+    let r : c.assigned_record-entry.result ≡ assigned_record (state_of h) tx =
+    c.assigned_record-entry.ensures.value ∙ (λ j. record { id = id j; session = c.session.ensures j; tx = tx }) in
+    let log : c.push_reserved.new.log.log ≡ h.log ++ assigned_record (state_of h) tx ∷ [] =
+    c.push_reserved.ensures ∙ (λ j. c.reserve.ensures.log j ++ r j ∷ []) in
+    let w : Waiting = record { id = length h.log + 1; client = tx.client; request = tx.request } in
+    let waiting : c.add.new.self ≡ h.waiting ++ w ∷ [] =
+    c.in_ok-add.ensures.ok ∙ (λ j. h.waiting ++ record { id = id j; client = c.client.ensures j; request = c.request.ensures j } ∷ []) in
+    let state : state_of h' ≡ assigned (state_of h) tx = (λ j. server_of h.known (record { log = log j; acked = length_kept h.kept; waiting = waiting j })) in
+    changed_held h h' c.self.inside.locks c.note.new.self (assigned (state_of h) tx) c.self.invariant refl
+    (config_same h h' refl (ap (λ (s : Shape). s.rows) c.note.ensures.raised.shape) (ap (λ (s : Shape). s.slots) c.note.ensures.raised.shape)) state (λ i. refl)
+    (assigned_serves (config_of h) (state_of h) tx c.self.inside.locks c.note.new.self c.self.invariant.is running
+    (subst (λ (x : Record). IsRecord x) r c.assigned_record-entry.ensures.valid) (subst IsWord c.request.ensures c.request.type_inv)
+    (c.note.ensures.stands (chosen_len (config_of h) (state_of h)) h.log (assigned_record (state_of h) tx) (sym id) refl))

@@ -1,10 +1,11 @@
 use Rattle.std.proofs.Common.{◌≡◌, ◌+◌, ◌<◌, ◌^◌, ◌++◌, List, ℕ, length, sym, ◌∙◌, ap, subst, arith}
 use Rattle.tx_model.proofs.Batches.{RiseByOne-All}
-use Rattle.record_frame.specs.Framing.{record_len}
+use Rattle.tx_model.specs.Framing.{record_len}
 use Rattle.disk_model.specs.File.{IsImage}
-use Rattle.disk_model.specs.Frames.{joined}
+use Rattle.tx_model.specs.Frames.{joined}
 use Rattle.disk_model.specs.History.{EachMoment}
-use Rattle.segment_store.specs.Records.{records_of, records_in, frames_of, HasPrefixOf, EachLeftHolds}
+use Rattle.tx_model.specs.Contents.{records_of, records_in}
+use Rattle.segment_store.specs.Records.{frames_of, HasPrefixOf, EachLeftHolds}
 use Rattle.segment_store.specs.Index.{Index, count_of, starts_of, IsTidy, IsLoadable}
 use Rattle.disk_model.proofs.Left.{each_left}
 use Rattle.segment_store.proofs.Appended.{writes, syncs, can_load, added, in_each, tidy_then}

@@ -1,8 +1,8 @@
 use Rattle.std.proofs.Common.{◌≡◌, ◌<◌, ℕ, take, drop, Some, sym, ◌∙◌, ap, arith}
 use Rattle.std.specs.Prelude.{slice_get}
 use Rattle.tx_model.specs.declared.record.Record.{Record}
-use Rattle.disk_model.specs.Frames.{joined}
-use Rattle.segment_store.specs.Records.{records_in}
+use Rattle.tx_model.specs.Frames.{joined}
+use Rattle.tx_model.specs.Contents.{records_in}
 use Rattle.segment_store.specs.Index.{count_of}
 use Rattle.segment_store.proofs.Got.{got_id, got_record}
 use Rattle.segment_store.proofs.segment.Segment.get.Goals as goal

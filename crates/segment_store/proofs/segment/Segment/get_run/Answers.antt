@@ -1,7 +1,7 @@
 use Rattle.std.proofs.Common.{rules, ◌≡◌, ◌+◌, ◌-◌, ◌<◌, ◌≤◌, ℕ, length, take, drop, sym, ◌∙◌, ap, subst, arith}
 use Rattle.tx_model.specs.Records.{RiseByOne}
-use Rattle.disk_model.specs.Frames.{joined}
-use Rattle.segment_store.specs.Records.{records_of, records_in}
+use Rattle.tx_model.specs.Frames.{joined}
+use Rattle.tx_model.specs.Contents.{records_of, records_in}
 use Rattle.segment_store.specs.Index.{Index, count_of, run_length}
 use Rattle.segment_store.proofs.Indexing.{none_rise, length-records_of}
 use Rattle.segment_store.proofs.Got.{run_within, run_whole, run_long, run_ids, run_records}

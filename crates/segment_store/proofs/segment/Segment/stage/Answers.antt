@@ -1,9 +1,10 @@
 use Rattle.std.proofs.Common.{◌≡◌, ◌+◌, ◌<◌, ◌^◌, ◌++◌, List, ℕ, length, sym, ◌∙◌, ap, subst, arith}
 use Rattle.tx_model.proofs.Batches.{RiseByOne-All}
-use Rattle.disk_model.specs.Frames.{joined}
+use Rattle.tx_model.specs.Frames.{joined}
 use Rattle.disk_model.specs.History.{EachMoment}
 use Rattle.disk_model.proofs.Moments.{weaker}
-use Rattle.segment_store.specs.Records.{records_in, frames_of}
+use Rattle.tx_model.specs.Contents.{records_in}
+use Rattle.segment_store.specs.Records.{frames_of}
 use Rattle.segment_store.specs.Index.{Index, count_of, starts_of, IsIndexOfAll}
 use Rattle.segment_store.proofs.Staged.{staged-records, staged-all}
 use Rattle.segment_store.proofs.segment.Segment.stage.Goals as goal

@@ -1,9 +1,11 @@
 use Rattle.std.proofs.Common.{◌≡◌, ℕ, sym, ap, subst}
-use Rattle.record_frame.specs.Framing.{record_len}
-use Rattle.disk_model.specs.Frames.{joined, frames_in, IsFirm, HasFirmFrames}
+use Rattle.tx_model.specs.Framing.{record_len}
+use Rattle.tx_model.specs.Frames.{joined, frames_in}
+use Rattle.disk_model.specs.Frames.{IsFirm, HasFirmFrames}
 use Rattle.disk_model.specs.History.{EachMoment}
 use Rattle.disk_model.proofs.Trimmed.{trim_cuts, trim_syncs}
-use Rattle.segment_store.specs.Records.{records_in, EachLeftHolds}
+use Rattle.tx_model.specs.Contents.{records_in}
+use Rattle.segment_store.specs.Records.{EachLeftHolds}
 use Rattle.segment_store.specs.Index.{Index, IsWholeIndexOf, IsTidy}
 use Rattle.segment_store.proofs.Indexing.{framing}
 use Rattle.segment_store.proofs.Loaded.{firm_records, load_end, load_cut, load_records, load_tidy}

@@ -1,7 +1,0 @@
-use Rattle.std.proofs.Common.{◌≡◌, drop}
-use Rattle.proto_model.specs.Choices.{best}
-use Rattle.partition_server.proofs.recovery.recovery_choice.Given as goal
-
--- the best so far and what is left give the best of all
-abbrev pub invariant-loop-report : goal.invariant-loop-report
-invariant-loop-report l = best l.best (drop l.report-index l.report-items) ≡ best l.initial.best l.report-items

@@ -1,9 +1,0 @@
-use Rattle.std.proofs.Common.{List, take, sym, subst}
-use Rattle.tx_model.specs.declared.record.Record.{Record}
-use Rattle.tx_model.specs.Records.{RiseByOne}
-use Rattle.tx_model.proofs.Batches.{RiseByOne-take}
-use Rattle.partition_server.proofs.server.Server.repair_message.Goals as goal
-
-pub batch_after-requires-clause-rise : goal.batch_after-requires-clause-rise
-batch_after-requires-clause-rise c =
-    subst (λ (log : List Record). RiseByOne 1 (take c.chosen_len-chosen_len.result log)) (sym c.deref.ensures.value) (RiseByOne-take 1 c.self.inside.log.items c.chosen_len-chosen_len.result c.self.invariant.rise)

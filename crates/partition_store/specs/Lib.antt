@@ -1,0 +1,4 @@
+pub mod Stands
+pub mod Stores
+pub mod Found
+pub mod Loading

@@ -1,5 +1,0 @@
-use Rattle.waltz_cli.proofs.NodeLemmas.{reply_valid}
-use Rattle.waltz_cli.proofs.node.Node.step.Goals as goal
-
-pub returns-clause-valid : goal.returns-clause-valid
-returns-clause-valid c = reply_valid _ c.args.self.now c.args.m.now c.take.result c.self.view_is c.self.invariant c.take.ensures.reply
