@@ -10,6 +10,8 @@ mod outcomes;
 #[cfg(test)]
 mod pools;
 #[cfg(test)]
+mod reading;
+#[cfg(test)]
 mod replays;
 #[cfg(test)]
 mod schedules;
