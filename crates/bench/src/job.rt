@@ -7,15 +7,18 @@ pub enum Job {
     Segment(u64),
     Get(u64),
     GetRun(u64),
+    Store(u64),
+    Load(u64),
+    Disk(u64),
+    Server(u64),
+    Hashes(u64),
+    Apply(u64),
 }
 
 /// The job that the words name.
 pub fn job_of(words: &[String]) -> Option<Job> {
     match words {
-        [word, times] if word.as_str() == "digest" => Some(Job::Digest(times.parse().ok()?)),
-        [word, count] if word.as_str() == "segment" => Some(Job::Segment(count.parse().ok()?)),
-        [word, times] if word.as_str() == "get" => Some(Job::Get(times.parse().ok()?)),
-        [word, times] if word.as_str() == "run" => Some(Job::GetRun(times.parse().ok()?)),
+        [word, times] => job_of_word(word.as_str(), times.parse().ok()?),
         [frames, work, times] if frames.as_str() == "frames" => {
             let times = times.parse().ok()?;
             match work.as_str() {
@@ -24,6 +27,23 @@ pub fn job_of(words: &[String]) -> Option<Job> {
                 _ => None,
             }
         }
+        _ => None,
+    }
+}
+
+// The job of one word.
+fn job_of_word(word: &str, times: u64) -> Option<Job> {
+    match word {
+        "digest" => Some(Job::Digest(times)),
+        "segment" => Some(Job::Segment(times)),
+        "get" => Some(Job::Get(times)),
+        "run" => Some(Job::GetRun(times)),
+        "store" => Some(Job::Store(times)),
+        "load" => Some(Job::Load(times)),
+        "disk" => Some(Job::Disk(times)),
+        "server" => Some(Job::Server(times)),
+        "hashes" => Some(Job::Hashes(times)),
+        "apply" => Some(Job::Apply(times)),
         _ => None,
     }
 }

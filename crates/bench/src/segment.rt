@@ -1,6 +1,6 @@
 //! A segment over a disk in memory: records are appended in batches of eight, loaded again, and read by their ids.
-ghost use Rattle.std.specs.Prelude.{◌≡◌, ◌≤◌, ◌<◌, ◌^◌, ◌+◌, IfOk};
-ghost use Rattle.tx_model.specs.Records.{RiseByOne};
+ghost use Rattle.std.specs.Prelude.{◌≡◌, ◌≤◌, ◌<◌, ◌^◌, ◌+◌, All, IfOk};
+ghost use Rattle.tx_model.specs.Records.{IsRecord, RiseByOne};
 ghost use Rattle.disk_model.specs.MemDisk.{mem_history};
 ghost use Rattle.segment_store.specs.Index.{IsIndexOf, IsTidy};
 
@@ -12,10 +12,11 @@ use std::io::{self, ErrorKind};
 use tx_model::Record;
 
 /// Eight records with ids from a first one on.
-fn batch(alloc: Global, first: u64) -> io::Result<Vec<Record>>
+pub fn batch(alloc: Global, first: u64) -> io::Result<Vec<Record>>
     requires some { 1 ≤ first }
     requires below { first + 8 < 2 ^ 48 }
-    ensures { IfOk result (λ records. RiseByOne first records.items) }
+    ensures rise { IfOk result (λ records. RiseByOne first records.items) }
+    ensures valid { IfOk result (λ records. All IsRecord records.items) }
 {
     let mut records = Vec::with_capacity(alloc, 8)?;
     for k in 0..8 {

@@ -1,5 +1,5 @@
 -- What is built holds each key that its ops name.
-use Rattle.std.proofs.Common.{◌≡◌, ℕ, Bool, true, false, cond, not, List, [], ◌∷◌, Contains, find, Option, Some, None, refl, sym, subst, inl, inr}
+use Rattle.std.proofs.Common.{◌≡◌, ℕ, true, false, cond, not, List, [], ◌∷◌, Contains, find, Option, Some, None, refl, subst, inl, inr}
 use Rattle.tx_model.specs.Transactions.{is_among}
 use Rattle.tx_model.specs.Applications.{named_keys}
 use Rattle.tx_model.proofs.Names.{Contains-from_is_among}

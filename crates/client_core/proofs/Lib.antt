@@ -4,3 +4,4 @@ pub mod Refusals
 pub mod Covered
 pub mod Doubles
 pub mod Told
+pub mod Applying

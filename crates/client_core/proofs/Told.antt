@@ -1,13 +1,12 @@
 -- The refusal as a function is the refusal as a relation.
-use Rattle.std.proofs.Common.{◌≡◌, ◌≢◌, ℕ, ◌+◌, ◌-◌, ◌<◌, ◌≤◌, ◌^◌, ◌==◌, Bool, true, false, not, nat_lt, if◌then◌else◌, List, ◌++◌, length, Option, Some, None, refl, sym, ap, subst, ◌∙◌, arith}
+use Rattle.std.proofs.Common.{◌≡◌, ◌≢◌, ℕ, ◌+◌, ◌-◌, ◌^◌, ◌==◌, Bool, true, false, not, nat_lt, if◌then◌else◌, List, ◌++◌, length, Option, Some, None, refl, sym, ap, subst, ◌∙◌, arith}
 use Rattle.std.proofs.lemmas.Bool.Decides.{nat_tests}
-use Rattle.kv_app.specs.Places.{IsOpText, IsBadAt, is_op_text, bad_place}
+use Rattle.kv_app.specs.Places.{IsOpText, is_op_text, bad_place}
 use Rattle.kv_app.proofs.Endings.{op_text_tested, op_text_from_test, bad_place_is}
-use Rattle.tx_model.specs.Transactions.{HasDouble}
 use Rattle.proto_model.specs.declared.refusal.BuildFault.{BuildFault}
 use Rattle.proto_model.specs.declared.refusal.BuildFault.TheVariants.{BadOps, TooManyLocks, DoubleLock, PayloadTooLong, Unlocked, LastRequest, Memory}
 use Rattle.client_core.specs.Clients.{ClientOf}
-use Rattle.client_core.specs.Building.{Draft, has_double, form_refusal, unlocked_key, request_refusal, or_unlocked, or_earlier, build_refusal, named_keys, IsLeastUnlocked, HasPayload, HasLockedKeys, IsBuildable, IsRefusal}
+use Rattle.client_core.specs.Building.{Draft, has_double, form_refusal, unlocked_key, request_refusal, or_unlocked, or_earlier, build_refusal, named_keys, HasPayload, HasLockedKeys, IsBuildable, IsRefusal}
 use Rattle.client_core.proofs.Builds.{unlocked_is_least}
 use Rattle.client_core.proofs.Covered.{all_among, no_earlier}
 use Rattle.client_core.proofs.Doubles.{double_tested, double_from_test}

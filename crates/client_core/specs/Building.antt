@@ -1,6 +1,5 @@
 -- What a client refuses to build. Of the refusals that fit, the first is given.
 use Rattle.std.specs.Prelude.{◌≡◌, ◌≢◌, ℕ, ◌+◌, ◌-◌, ◌≤◌, ◌<◌, ◌^◌, ◌==◌, ◌||◌, Bool, false, not, nat_lt, if◌then◌else◌, List, [], ◌∷◌, ◌++◌, length, find, Contains, Option, Some, None}
-use Rattle.tx_model.specs.declared.op.Op.{Op}
 use Rattle.tx_model.specs.Transactions.{is_before, is_among, HasDouble}
 pub use Rattle.tx_model.specs.Applications.{keys_of, named_keys}
 use Rattle.kv_app.specs.Places.{IsOpText, IsBadAt, is_op_text, bad_place}

@@ -1,3 +1,4 @@
 pub mod Clients
 pub mod States
 pub mod Building
+pub mod Applied

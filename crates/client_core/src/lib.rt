@@ -7,4 +7,4 @@ mod laws;
 mod refusing;
 
 pub use client::Client;
-pub use laws::refusals_are_in_order;
+pub use laws::{applications_are_serial, refusals_are_in_order};

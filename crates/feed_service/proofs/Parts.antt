@@ -1,13 +1,10 @@
--- A window's log when records are added, and parts of it.
-use Rattle.std.proofs.Common.{◌≡◌, ℕ, zero, suc, ◌+◌, ◌-◌, ◌<◌, ◌≤◌, ◌^◌, min, List, [], ◌∷◌, ◌++◌, None, refl, ap, subst, ◌∙◌, length, get_or, take, drop, slice_get, arith, lit<, length-take, length-drop}
-use Rattle.std.proofs.lemmas.Grind.{common_steps}
-use Rattle.std.proofs.lemmas.List.{length-take-le}
+-- A window's log when records are added, and its records by their ids.
+use Rattle.std.proofs.Common.{◌≡◌, ℕ, zero, suc, ◌+◌, ◌<◌, ◌≤◌, ◌^◌, List, [], ◌∷◌, ◌++◌, None, refl, subst, length, get_or, take, slice_get, arith, lit<}
 use Rattle.std.proofs.lemmas.Option.{slice_get_past}
 use Rattle.tx_model.specs.declared.record.Record.{Record}
 use Rattle.tx_model.specs.Logs.{record_at}
 use Rattle.tx_model.specs.Records.{IsRecord, IsBatch, RiseByOne, first_id}
-use Rattle.tx_model.proofs.Batches.{RiseByOne-All, RiseByOne-append, RiseByOne-drop, RiseByOne-id, RiseByOne-take, IsBatch-from_RiseByOne}
-use Rattle.feed_service.specs.Contents.{part_of}
+use Rattle.tx_model.proofs.Batches.{RiseByOne-All, RiseByOne-append, RiseByOne-id, RiseByOne-take}
 
 -- ---- records that are added
 
@@ -30,25 +27,6 @@ rise_extended log batch n rise is next =
     let id : first_id batch ≡ 1 + length log = omega (arith, next) in
     let more : RiseByOne (1 + length log) (take n batch) = subst (λ k. RiseByOne k (take n batch)) id (RiseByOne-take (first_id batch) batch n is.rise) in
     RiseByOne-append 1 log (take n batch) rise more
-
--- ---- parts
-
-part_len : (log : List Record) (place upto : ℕ) → upto ≤ length log → length (part_of log place upto) ≡ min 8 (upto - place)
-part_len log place upto within =
-    length-take 8 (drop place (take upto log))
-    ∙ ap (min 8) (length-drop place (take upto log) ∙ ap (λ n. n - place) (length-take-le upto log within))
-
-pub part_batch : (log : List Record) (place upto : ℕ) → RiseByOne 1 log → place < upto → upto ≤ length log → IsBatch (part_of log place upto)
-part_batch log place upto rise some within =
-    let front : List Record = take upto log in
-    let len : length front ≡ upto = length-take-le upto log within in
-    let all : RiseByOne (1 + place) (drop place front) = RiseByOne-drop 1 front place (omega (arith, len)) (RiseByOne-take 1 log upto rise) in
-    let count = part_len log place upto within in
-    IsBatch-from_RiseByOne (1 + place) (part_of log place upto) (omega (arith, count)) (omega (arith, count)) (RiseByOne-take (1 + place) (drop place front) 8 all)
-
--- the first ones of what comes after a place
-pub at_most : {A : Type 0} (n : ℕ) (xs : List A) (place m : ℕ) → m ≡ min (length xs - place) n → take m (take (length xs - place) (drop place xs)) ≡ take n (drop place xs)
-at_most n xs place m is = grind (arith, common_steps)
 
 -- ---- what the crates above need of a window's log
 

@@ -5,7 +5,7 @@ ghost use Rattle.feed_service.specs.Contents.{shown_heads, part_of};
 
 use std::alloc::{AllocError, Global};
 use std::marker::Model;
-use tx_model::{Batch, Head, MAX_BATCH, Record};
+use tx_model::{Batch, Head, Record};
 
 /// A server's log in memory. The first record has the id 1, and each further one the next id.
 #[derive(Drop)]
@@ -141,10 +141,7 @@ impl Window {
         ensures value { IfOk result (λ batch. batch ≡ part_of self.now.log place upto) }
         ensures valid { IfOk result IsBatch }
     {
-        let front = &self.records[..upto as usize];
-        let rest = &front[place as usize..];
-        let records = copies_of(self.alloc, &rest[..rest.len().min(MAX_BATCH)])?;
-        Ok(Batch::of_records(records))
+        Batch::after(self.alloc, &self.records[..upto as usize], place)
     }
 }
 
@@ -158,17 +155,6 @@ fn heads_of(alloc: Global, records: &[Record]) -> Result<Vec<Head>, AllocError>
         heads.push(entry.head(alloc)?)?;
     }
     Ok(heads)
-}
-
-// Equal records.
-fn copies_of(alloc: Global, records: &[Record]) -> Result<Vec<Record>, AllocError>
-    ensures { IfOk result (λ copies. copies.items ≡ records.now) }
-{
-    let mut copies = Vec::with_capacity(alloc, records.len())?;
-    for entry in records {
-        copies.push(entry.copy(alloc)?)?;
-    }
-    Ok(copies)
 }
 
 // Adds a record for which there is room.

@@ -1,4 +1,4 @@
-ghost use Rattle.std.specs.Prelude.{◌≡◌, ◌≤◌, length, IfOk};
+ghost use Rattle.std.specs.Prelude.{◌≡◌, ◌≤◌, ◌<◌, take, drop, length, IfOk};
 ghost use Rattle.tx_model.specs.Records.{IsPlace};
 ghost use Rattle.tx_model.specs.Spelling.{IsCount};
 ghost use Rattle.proto_model.specs.Servers.{idle_server, drawn, commit_mark};
@@ -18,6 +18,7 @@ use quorum_append::Acks;
 use session_recovery::Nodes;
 use std::alloc::{AllocError, Global};
 use std::marker::Model;
+use tx_model::Batch;
 
 /// The server of a partition. It opens a session at the nodes, chooses of a quorum's logs the one to go on with, and
 /// brings it to the nodes. Once a quorum adopted it, the server assigns ids to transactions, takes the nodes'
@@ -87,6 +88,14 @@ impl Server {
         ensures { result ≡ length self.now.log }
     {
         self.log.len()
+    }
+
+    /// Copies of the records after a place, committed or not, eight at most: for one who keeps a book of the log.
+    pub fn batch_after(&self, place: u64) -> Result<Batch, AllocError>
+        requires { place < length self.now.log }
+        ensures value { IfOk result (λ batch. batch ≡ take 8 (drop place self.now.log)) }
+    {
+        self.log.batch_after(place, self.log.len())
     }
 
     /// The length that a quorum holds.

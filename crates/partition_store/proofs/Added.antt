@@ -11,7 +11,7 @@ use Rattle.tx_model.specs.Framing.{record_len}
 use Rattle.tx_model.specs.Contents.{records_in, entries_in}
 use Rattle.tx_model.proofs.Batches.{RiseByOne-take, RiseByOne-drop}
 use Rattle.tx_model.proofs.RisingIds.{rise-ids}
-use Rattle.disk_model.specs.File.{File, IsImage, IsPlain}
+use Rattle.disk_model.specs.File.{File, IsPlain}
 use Rattle.disk_model.specs.Chance.{MayLeave}
 use Rattle.disk_model.specs.History.{Files, History, EachMoment}
 use Rattle.disk_model.proofs.Moments.{of_file}
@@ -21,11 +21,11 @@ use Rattle.segment_store.specs.Index.{Index, count_of, IsTidy as IsTidySegment}
 use Rattle.proto_model.specs.Replicas.{ReplicaState}
 use Rattle.proto_model.specs.Crashes.{unstaged}
 use Rattle.proto_model.specs.Parts.{with_batch}
-use Rattle.proto_model.specs.Held.{Held, Table, Contents, none_held, with_more, folded, Folds, EachNamed, replica_of, table_of, held_in, Stands}
+use Rattle.proto_model.specs.Held.{Held, Table, Contents, none_held, with_more, folded, Folds, EachNamed, replica_of, table_of, held_in}
 use Rattle.proto_model.proofs.Folding.{folds-some, folds-alike, named-map, grows, IsGrown, none_sane}
-use Rattle.partition_store.specs.Stands.{reads_of, held_now, Leaves, LeavesAtEach, HasSome}
+use Rattle.partition_store.specs.Stands.{reads_of, held_now, LeavesNear, LeavesAtEach, HasSome}
 use Rattle.partition_store.specs.Stores.{Kept, state_by, lacking, staged_count, records_at, records_by, IsChain, AreClosed, AreInOrder, IsLast, IsLastOf, IsStagedOf, IsFit, IsSound}
-use Rattle.partition_store.proofs.Left.{framing-records, now_is, folds, synced_within, left_plain, left_journal, leaves_same, leaves_weaker, leaves_run}
+use Rattle.partition_store.proofs.Left.{framing-records, now_is, folds, synced_within, left_plain, left_journal, near_of, next_same, near_same, leaves_weaker, leaves_run}
 use Rattle.partition_store.proofs.Same.{closed_same, records_by-same}
 use Rattle.partition_store.proofs.Whole.{segment-plain}
 
@@ -65,22 +65,20 @@ module _ (old : Files) (h : Held) (held : held_in (reads_of old) ≡ Some h) (sy
     some_ids : (k : ℕ) → ids_rise (length h.log + 1) (take k rs) ≡ true
     some_ids k = rise-ids (length h.log + 1) (take k rs) (RiseByOne-take (length h.log + 1) rs k ids)
 
-    pub add_moment : (plain : Type 0) (s : Files) → EachLeftHolds plain (HasPrefixOf (records_in (old h.file).reads) rs) (s h.file) → ((q : ℕ) → q ≢ h.file → s q ≡ old q) → Leaves plain (HasSome (replica_of h) rs) s
+    pub add_moment : (plain : Type 0) (s : Files) → EachLeftHolds plain (HasPrefixOf (records_in (old h.file).reads) rs) (s h.file) → ((q : ℕ) → q ≢ h.file → s q ≡ old q) → LeavesNear plain (HasSome (replica_of h) rs) h.file s
     add_moment plain s records others c left =
         let here : MayLeave plain record_len (s h.file) (c h.file) = subst (λ (len : List ℕ → ℕ). MayLeave plain len (s h.file) (c h.file)) (framing-records h.file above) (left h.file) in
         let found = records (c h.file) here in
         let same = named-map (λ q. IsPlain (old q) × ((1 < q) × (q ≤ h.file))) (λ q. q ≢ h.file → tab q ≡ table_of c q) es
         (λ q it not. ap records_in (sym (left_plain (old q) (s q) (c q) it.0 (others q not) (left q).image))) named in
-        record {
-          held = with_more h (take found.0 rs);
-          is = held_grown c (take found.0 rs) (left_journal old h held synced end tidy s c (others 0 (omega (arith, above))) (left 0).image) found.2 same (some_ids found.0);
-          has = (found.0, found.1, refl);
-        }
+        near_of (HasSome (replica_of h) rs) h.file c (with_more h (take found.0 rs))
+        (held_grown c (take found.0 rs) (left_journal old h held synced end tidy s c (others 0 (omega (arith, above))) (left 0).image) found.2 same (some_ids found.0))
+        (found.0, found.1, refl) (next_same h.file)
 
-    pub add_first : (plain : Type 0) → Leaves plain (HasSome (replica_of h) rs) old
-    add_first plain = leaves_weaker plain (λ r. r ≡ replica_of h) (HasSome (replica_of h) rs) old
+    pub add_first : (plain : Type 0) → LeavesNear plain (HasSome (replica_of h) rs) h.file old
+    add_first plain = leaves_weaker plain (λ r. r ≡ replica_of h) (HasSome (replica_of h) rs) h.file old
         (λ r is. (0, omega arith, is ∙ ap (λ (l : List Record). record (replica_of h) { log = l }) (sym (append-nil h.log))))
-        (leaves_same old h held synced plain end tidy old refl (λ q over below. refl))
+        (near_same old h held synced plain end tidy old refl (λ q over below. refl))
 
     -- then it has all of them
     pub add_held : (new : Files) → records_in (new h.file).reads ≡ records_in (old h.file).reads ++ rs → ((q : ℕ) → q ≢ h.file → new q ≡ old q) → held_in (reads_of new) ≡ Some (with_more h rs)
@@ -148,7 +146,7 @@ module _ {D : Type 0} (plain : Type 0) (history : D → History) (k : Kept D) (s
   adds new run =
       let here = subst (λ (q : ℕ). EachMoment q (EachLeftHolds plain (HasPrefixOf (records_in (before q).reads) rs)) (history k.disk) new) last.file run in
       leaves_run plain (HasSome (replica_of was) rs) (history k.disk) new
-      (of_file was.file (EachLeftHolds plain (HasPrefixOf (records_in (before was.file).reads) rs)) (Leaves plain (HasSome (replica_of was) rs)) (history k.disk) new here
+      (of_file was.file (EachLeftHolds plain (HasPrefixOf (records_in (before was.file).reads) rs)) (LeavesNear plain (HasSome (replica_of was) rs) was.file) (history k.disk) new here
       (add_moment before was sound.standing.held sound.plain last.above k.journal sound.journal rs ids plain))
       (add_first before was sound.standing.held sound.plain last.above k.journal sound.journal rs ids plain)
 

@@ -1,5 +1,5 @@
 -- An adoption names the file of the staged records.
-use Rattle.std.proofs.Common.{◌≡◌, ◌≢◌, ◌⊎◌, inl, inr, ℕ, ◌+◌, ◌<◌, ◌≤◌, ◌^◌, Bool, true, ◌&&◌, List, [], ◌∷◌, ◌++◌, length, take, refl, sym, ◌∙◌, ap, subst, arith, length-append, Option, Some, None}
+use Rattle.std.proofs.Common.{◌≡◌, ◌≢◌, ◌⊎◌, inl, inr, ℕ, ◌+◌, ◌<◌, ◌≤◌, ◌^◌, List, [], ◌∷◌, ◌++◌, length, take, refl, sym, ◌∙◌, ap, subst, arith, length-append, Option, Some, None}
 use Rattle.std.specs.Prelude.{nat_le, nat_lt, ◌==◌}
 use Rattle.std.specs.Option.{option_to_list}
 use Rattle.std.proofs.lemmas.Bool.{and_from, le-leb, lt-ltb, eq-eqb}
@@ -10,19 +10,17 @@ use Rattle.tx_model.specs.declared.meta.Meta.{Meta}
 use Rattle.tx_model.specs.declared.meta.Meta.TheVariants.{Adopt}
 use Rattle.tx_model.specs.Contents.{records_in}
 use Rattle.tx_model.proofs.RisingIds.{rise-ids}
-use Rattle.disk_model.specs.File.{File, IsPlain, settled}
+use Rattle.disk_model.specs.File.{File, IsPlain}
 use Rattle.disk_model.specs.History.{Files, History, EachMoment}
 use Rattle.meta_journal.specs.Entries.{entries_at, HasEntry, EachLeftHas, IsEntered}
 use Rattle.segment_store.specs.Index.{Index, count_of, IsIndexOfAll, IsTidy as IsTidySegment}
 use Rattle.segment_store.proofs.Indexing.{index-none}
 use Rattle.segment_store.proofs.Staged.{synced-tidy}
-use Rattle.proto_model.specs.Replicas.{ReplicaState}
-use Rattle.proto_model.specs.Crashes.{unstaged}
 use Rattle.proto_model.specs.Parts.{adopted_to}
-use Rattle.proto_model.specs.Held.{Held, Contents, IsTaken, held_after, replica_of, table_of, held_in}
+use Rattle.proto_model.specs.Held.{Held, IsTaken, held_after, replica_of, table_of}
 use Rattle.proto_model.proofs.Folding.{IsSane, none_sane, folds-sane}
-use Rattle.partition_store.specs.Stands.{reads_of, held_now, LeavesAtEach, IsOldOrNew}
-use Rattle.partition_store.specs.Stores.{Kept, state_by, staged_count, records_at, records_by, IsChain, AreClosed, AreCut, AreInOrder, AreStagedFrom, IsLast, IsLastOf, IsStagedOf, IsReady, IsFit, IsSound, begun}
+use Rattle.partition_store.specs.Stands.{IsNext, reads_of, held_now, LeavesAtEach, IsOldOrNew}
+use Rattle.partition_store.specs.Stores.{Kept, state_by, staged_count, records_at, records_by, IsChain, AreClosed, AreCut, AreInOrder, AreStagedFrom, IsLastOf, IsStagedOf, IsReady, IsFit, IsSound, begun}
 use Rattle.partition_store.proofs.Left.{folds, at_each_weaker}
 use Rattle.partition_store.proofs.Same.{closed_same, records_by-same}
 use Rattle.partition_store.proofs.Entered.{enters, enter_held, enter_now, enter_plain}
@@ -137,6 +135,9 @@ module _ {D : Type 0} (plain : Type 0) (history : D → History) (k : Kept D) (f
   names : (1 < file) × IsPlain ((history k.disk).now file)
   names = (above_first plain history k sound file next, ready.plain)
 
+  then_next : IsNext h.file file
+  then_next = let is = next_is plain history k sound file next in record { from = omega (arith, is); to = omega (arith, is) }
+
   abbrev then : Held
   then = held_after (table_of (reads_of (history k.disk).now)) (held_now (history k.disk).now) (Adopt session (k.status.low + 1) file count)
 
@@ -148,7 +149,7 @@ module _ {D : Type 0} (plain : Type 0) (history : D → History) (k : Kept D) (f
       → LeavesAtEach plain (IsOldOrNew (state_by history k) (adopted_to (state_by history k) session)) (history k.disk) new
   adopts new run = at_each_weaker plain (λ r. (r ≡ replica_of h) ⊎ (r ≡ replica_of then)) (IsOldOrNew (state_by history k) (adopted_to (state_by history k) session)) (history k.disk) new
       (λ r it. elim it [ inl was ↦ inl was | inr now ↦ inr (now ∙ becomes) ])
-      (enters plain (history k.disk) k sound e taken names new run)
+      (enters plain (history k.disk) k sound e taken names then_next new run)
 
   -- and then
   module _ (disk : D) (end : ℕ) (entered : IsEntered (Adopt session (k.status.low + 1) file count) end (history k.disk) (history disk)) (others : (q : ℕ) → q ≢ 0 → (history disk).now q ≡ (history k.disk).now q) where

@@ -1,10 +1,9 @@
 -- How calls answer.
-use Rattle.std.proofs.Common.{◌≡◌, ◌≢◌, true, false, Bool, refl, sym, ◌∙◌, ap, subst, Ok, Err}
-use Rattle.std.specs.Prelude.{Result, IsErrOf}
+use Rattle.std.proofs.Common.{◌≡◌, ◌≢◌, true, false, Bool, ap, Err}
+use Rattle.std.specs.Prelude.{IsErrOf}
 use Rattle.disk_model.specs.History.{History}
-use Rattle.proto_model.specs.declared.message.Status.{Status}
 use Rattle.proto_model.specs.declared.replica.NodeFault.{NodeFault}
-use Rattle.proto_model.specs.declared.replica.NodeFault.TheVariants.{Disk, Damaged, Shut, Full, Memory}
+use Rattle.proto_model.specs.declared.replica.NodeFault.TheVariants.{Shut}
 use Rattle.proto_model.specs.Nodes.{Shuts}
 use Rattle.partition_store.specs.Stores.{Kept, state_by, IsAnswer}
 

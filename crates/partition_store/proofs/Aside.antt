@@ -10,9 +10,9 @@ use Rattle.segment_store.specs.Index.{Index}
 use Rattle.proto_model.specs.Crashes.{unstaged}
 use Rattle.proto_model.specs.Held.{Held, EachNamed, replica_of, held_in}
 use Rattle.proto_model.proofs.Folding.{folds-names}
-use Rattle.partition_store.specs.Stands.{reads_of, held_now, Leaves, LeavesAtEach}
+use Rattle.partition_store.specs.Stands.{reads_of, held_now, LeavesNear, LeavesAtEach}
 use Rattle.partition_store.specs.Stores.{Kept, state_by, staged_count, records_at, IsStagedOf, IsSound}
-use Rattle.partition_store.proofs.Left.{now_is, folds, now_named, still_plain, held_same, leaves_same, leaves_run}
+use Rattle.partition_store.proofs.Left.{now_is, folds, now_named, still_plain, held_same, near_same, leaves_run}
 use Rattle.partition_store.proofs.Same.{same_closed, same_last, same_log}
 
 module _ {D : Type 0} (plain : Type 0) (history : D → History) (k : Kept D) (sound : IsSound (history k.disk).now k) (file : ℕ) (next : file ≡ k.status.file + 1) where
@@ -28,13 +28,13 @@ module _ {D : Type 0} (plain : Type 0) (history : D → History) (k : Kept D) (s
   pub above_first : 1 < file
   above_first = omega (arith, next_is, (folds-names _ _ _ h (folds old h sound.standing.held sound.plain)).0)
 
-  leaves : (s : Files) → ((q : ℕ) → q ≢ file → s q ≡ old q) → Leaves plain (λ r. r ≡ replica_of h) s
-  leaves s others = leaves_same old h sound.standing.held sound.plain plain k.journal sound.journal s (others 0 (omega (arith, next_is))) (λ q above below. others q (omega (arith, below, next_is)))
+  leaves : (s : Files) → ((q : ℕ) → q ≢ file → s q ≡ old q) → LeavesNear plain (λ r. r ≡ replica_of h) h.file s
+  leaves s others = near_same old h sound.standing.held sound.plain plain k.journal sound.journal s (others 0 (omega (arith, next_is))) (λ q above below. others q (omega (arith, below, next_is)))
 
   -- at each moment of a run on the file
   pub aside : (Q : File → Type 0) (new : History) → EachMoment file Q (history k.disk) new → LeavesAtEach plain (λ r. r ≡ unstaged (state_by history k)) (history k.disk) new
   aside Q new run = leaves_run plain (λ r. r ≡ replica_of h) (history k.disk) new
-      (of_file file Q (Leaves plain (λ r. r ≡ replica_of h)) (history k.disk) new run (λ s it others. leaves s others))
+      (of_file file Q (LeavesNear plain (λ r. r ≡ replica_of h) h.file) (history k.disk) new run (λ s it others. leaves s others))
       (leaves old (λ q not. refl))
 
   module _ (new : Files) (others : (q : ℕ) → q ≢ file → new q ≡ (history k.disk).now q) where

@@ -1,9 +1,8 @@
 -- A file that no entry names: emptied, and the first records written to it.
-use Rattle.std.proofs.Common.{◌≡◌, ℕ, List, [], ◌++◌, refl, sym, ◌∙◌, ap, subst}
+use Rattle.std.proofs.Common.{◌≡◌, ℕ, List, [], ◌++◌, refl, ◌∙◌, ap}
 use Rattle.tx_model.specs.declared.record.Record.{Record}
-use Rattle.tx_model.specs.Frames.{walk, frames_in}
-use Rattle.tx_model.specs.Framing.{record_len}
-use Rattle.tx_model.specs.Contents.{records_of, records_in}
+use Rattle.tx_model.specs.Frames.{walk}
+use Rattle.tx_model.specs.Contents.{records_in}
 use Rattle.disk_model.specs.File.{File, settled}
 use Rattle.disk_model.specs.History.{History, EachMoment}
 use Rattle.disk_model.proofs.Moments.{goes_on, weaker}

@@ -1,7 +1,6 @@
 -- Segments in a row.
-use Rattle.std.proofs.Common.{◌≡◌, inl, inr, ℕ, ◌+◌, ◌-◌, ◌<◌, ◌≤◌, List, [], ◌∷◌, ◌++◌, length, take, refl, sym, ◌∙◌, ap, subst, arith, append_assoc, length-append}
+use Rattle.std.proofs.Common.{◌≡◌, ℕ, ◌+◌, ◌-◌, ◌<◌, ◌≤◌, List, [], ◌∷◌, ◌++◌, length, take, refl, sym, ◌∙◌, ap, subst, arith, append_assoc, length-append}
 use Rattle.std.specs.Prelude.{min}
-use Rattle.std.specs.List.{AllByRecursion}
 use Rattle.std.proofs.lemmas.List.{append-nil, length-take-le, take-append-le, take-take}
 use Rattle.std.proofs.Math.Seq.{take-append-add}
 use Rattle.tx_model.specs.declared.record.Record.{Record}
@@ -11,7 +10,7 @@ use Rattle.segment_store.proofs.Indexing.{index-count, index-frames, length-reco
 use Rattle.tx_model.specs.Frames.{frames_in}
 use Rattle.tx_model.specs.Framing.{record_len}
 use Rattle.proto_model.specs.Held.{Contents}
-use Rattle.partition_store.specs.Stores.{IsChain, IsClosed, AreClosed, records_by, AreCut}
+use Rattle.partition_store.specs.Stores.{IsChain, AreClosed, records_by, AreCut}
 
 -- ---- ids
 

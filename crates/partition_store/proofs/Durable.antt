@@ -1,18 +1,16 @@
 -- What is true of a store, to those who use it.
-use Rattle.std.proofs.Common.{◌≡◌, ◌≢◌, ℕ, ◌+◌, ◌<◌, ◌≤◌, false, List, length, refl, sym, ◌∙◌, ap, subst, arith, Option, Some, None}
-use Rattle.tx_model.specs.declared.record.Record.{Record}
-use Rattle.tx_model.specs.Framing.{record_len, meta_len}
-use Rattle.tx_model.specs.Frames.{joined, frames_in}
-use Rattle.disk_model.specs.File.{File, IsPlain, settled}
+use Rattle.std.proofs.Common.{◌≡◌, ℕ, ◌<◌, refl, sym, ◌∙◌, ap, subst, arith, Option, Some, None}
+use Rattle.tx_model.specs.Framing.{record_len}
+use Rattle.disk_model.specs.File.{File}
 use Rattle.disk_model.specs.History.{Files, History}
 use Rattle.disk_model.proofs.Moments.{begins}
 use Rattle.proto_model.specs.Replicas.{ReplicaState}
-use Rattle.segment_store.specs.Index.{Index, IsTidy as IsTidySegment}
+use Rattle.segment_store.specs.Index.{Index}
 use Rattle.proto_model.specs.Crashes.{unstaged}
-use Rattle.proto_model.specs.Held.{Held, Contents, HasNoTail, AreTidy, held_in, replica_of}
-use Rattle.partition_store.specs.Stands.{reads_of, held_now, Leaves, LeavesAtEach}
-use Rattle.partition_store.specs.Stores.{Kept, state_of, state_by, IsStanding, IsDurable, IsLast, IsLastOf, IsFit, IsSound}
-use Rattle.partition_store.proofs.Left.{tidy-plain, leaves_same, leaves_weaker}
+use Rattle.proto_model.specs.Held.{Held, HasNoTail}
+use Rattle.partition_store.specs.Stands.{reads_of, held_now, LeavesNear, LeavesAtEach}
+use Rattle.partition_store.specs.Stores.{Kept, state_by, IsDurable, IsLastOf, IsFit, IsSound}
+use Rattle.partition_store.proofs.Left.{tidy-plain, leaves_same, near_same, leaves_weaker}
 
 some_same : {A : Type 0} (x y : A) → Some x ≡ Some y → x ≡ y
 some_same x y e = cc
@@ -68,5 +66,8 @@ entry_kept {D} s t k d journal same files sound = subst (λ (n : ℕ). IsSound t
 -- a call that changed nothing on the disk
 pub stays : {D : Type 0} (plain : Type 0) (history : D → History) (k : Kept D) → IsSound (history k.disk).now k → (P : ReplicaState → Type 0) → ((r : ReplicaState) → r ≡ unstaged (state_by history k) → P r) → (new : History) → new ≡ history k.disk → LeavesAtEach plain P (history k.disk) new
 stays plain history k sound P to new same =
-    let now : Leaves plain P (history k.disk).now = leaves_weaker plain (λ r. r ≡ unstaged (state_by history k)) P (history k.disk).now to (durable plain (history k.disk).now k sound).left in
-    subst (λ (h : History). LeavesAtEach plain P (history k.disk) h) (sym same) (record { each = begins (Leaves plain P) (history k.disk); now = now })
+    let files = (history k.disk).now in
+    let file = (held_now files).file in
+    let near = near_same files (held_now files) sound.standing.held sound.plain plain k.journal sound.journal files refl (λ q above below. refl) in
+    let now : LeavesNear plain P file files = leaves_weaker plain (λ r. r ≡ unstaged (state_by history k)) P file files to near in
+    subst (λ (h : History). LeavesAtEach plain P (history k.disk) h) (sym same) (record { each = begins (LeavesNear plain P file) (history k.disk); now = now })

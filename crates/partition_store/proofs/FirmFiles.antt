@@ -1,7 +1,6 @@
 -- The journal and the files that its entries name, through cuts and syncs: what is counted stays firm at each moment.
-use Rattle.std.proofs.Common.{◌≡◌, ◌≢◌, inl, inr, ℕ, ◌<◌, Bool, true, false, List, [], ◌∷◌, ◌++◌, length, take, refl, sym, ◌∙◌, ap, subst, arith, Option, Some, None}
-use Rattle.std.specs.Prelude.{nat_lt, if◌then◌else◌, IfSome}
-use Rattle.std.specs.List.{AllByRecursion}
+use Rattle.std.proofs.Common.{◌≡◌, ◌≢◌, inl, inr, ℕ, ◌<◌, Bool, List, [], ◌∷◌, ◌++◌, length, take, refl, sym, ◌∙◌, ap, subst, arith, Option, Some, None}
+use Rattle.std.specs.Prelude.{nat_lt, if◌then◌else◌}
 use Rattle.std.proofs.lemmas.Bool.{cases_Bool, cases_eq, false_from_ne_true, ltb-true}
 use Rattle.std.proofs.lemmas.List.{append-nil, take_at}
 use Rattle.tx_model.specs.declared.meta.Meta.{Meta}
@@ -10,14 +9,14 @@ use Rattle.tx_model.specs.Framing.{record_len, meta_len}
 use Rattle.tx_model.specs.Frames.{IsFraming, joined, frames_in}
 use Rattle.tx_model.specs.Contents.{entries_of}
 use Rattle.tx_model.proofs.RecordFrames.{record_framing, meta_framing}
-use Rattle.tx_model.proofs.Walks.{Split, split, frames_in-joined}
+use Rattle.tx_model.proofs.Walks.{split, frames_in-joined}
 use Rattle.disk_model.specs.File.{File, IsDuring, IsSound, IsPlain, settled, shortened}
 use Rattle.disk_model.specs.Frames.{IsFirm}
 use Rattle.disk_model.specs.History.{Files, History, EachMoment, AtEach, Always}
 use Rattle.disk_model.proofs.Images.{empty}
 use Rattle.disk_model.proofs.Firm.{firm_firmer, firm_settled, firm_shortened, firm_plain}
-use Rattle.disk_model.proofs.Moments.{always_too, of_file, each_now}
-use Rattle.segment_store.specs.Index.{Index, IsWholeIndexOf}
+use Rattle.disk_model.proofs.Moments.{always_too, of_file}
+use Rattle.segment_store.specs.Index.{Index}
 use Rattle.segment_store.proofs.Loaded.{wholly-frames}
 use Rattle.proto_model.specs.Held.{IfNames, EachNamed}
 use Rattle.proto_model.specs.Damages.{Naming, named_by, or_before, last_named}

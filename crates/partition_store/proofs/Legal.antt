@@ -1,10 +1,10 @@
 -- Whether the next entry is legal, by the numbers of what was taken in so far.
-use Rattle.std.proofs.Common.{◌≡◌, inl, ℕ, ◌+◌, ◌-◌, ◌<◌, ◌≤◌, ◌^◌, Bool, true, false, ◌&&◌, List, [], ◌∷◌, ◌++◌, length, refl, sym, ◌∙◌, ap, subst, arith, Option, Some, None, Result, Ok, Err}
+use Rattle.std.proofs.Common.{◌≡◌, inl, ℕ, ◌+◌, ◌-◌, ◌<◌, ◌≤◌, ◌^◌, true, false, ◌&&◌, List, [], ◌∷◌, ◌++◌, length, refl, sym, ◌∙◌, ap, subst, arith, Option, Some, None, Result, Ok, Err}
 use Rattle.std.specs.Prelude.{◌==◌, nat_le, nat_lt, OnOk}
 use Rattle.std.specs.List.{flat_map}
-use Rattle.std.proofs.lemmas.Bool.{and_from, and_parts, false_from_ne_true, le-leb, lt-ltb, eq-eqb, ltb-true, leb-true}
+use Rattle.std.proofs.lemmas.Bool.{and_from, and_parts, false_from_ne_true, le-leb, lt-ltb, eq-eqb, ltb-true}
 use Rattle.tx_model.specs.declared.meta.Meta.{Meta}
-use Rattle.tx_model.specs.declared.meta.Meta.TheVariants.{Promise, Adopt, Low, Roll, Value}
+use Rattle.tx_model.specs.declared.meta.Meta.TheVariants.{Promise, Adopt, Low, Roll}
 use Rattle.tx_model.specs.Spelling.{meta_frame}
 use Rattle.tx_model.specs.Contents.{entries_in}
 use Rattle.tx_model.specs.declared.record.Record.{Record}
@@ -13,11 +13,11 @@ use Rattle.disk_model.specs.LoadFaults.{IfDamaged}
 use Rattle.disk_model.specs.declared.unloaded.LoadFault.{LoadFault}
 use Rattle.disk_model.proofs.Told.{told_on}
 use Rattle.segment_store.specs.Index.{Index}
-use Rattle.proto_model.specs.Held.{Held, Contents, table_of, none_held, is_legal, held_after, IfNames}
-use Rattle.proto_model.specs.Damages.{Naming, named_by, or_before, last_named, has_counted, IsTakenSoFar, FoldsSoFar, Reached, IsDamaged}
-use Rattle.proto_model.proofs.Folding.{AdoptFits, adopt_fits, RollFits, roll_fits, low_fits}
+use Rattle.proto_model.specs.Held.{Held, Contents, table_of, none_held, is_legal, held_after}
+use Rattle.proto_model.specs.Damages.{Naming, named_by, or_before, last_named, IsDamaged}
+use Rattle.proto_model.proofs.Folding.{adopt_fits, roll_fits, low_fits}
 use Rattle.proto_model.proofs.SoFar.{so_far-more}
-use Rattle.partition_store.proofs.NamedFiles.{last_named-more}
+use Rattle.proto_model.proofs.NamedFiles.{last_named-more}
 use Rattle.partition_store.specs.Stores.{AreClosed}
 use Rattle.partition_store.specs.Loading.{IsLastRead, IsTailOf, IsLoadedOf}
 use Rattle.partition_store.specs.declared.taking.Loaded.{Loaded}

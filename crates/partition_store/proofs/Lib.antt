@@ -1,6 +1,6 @@
-mod Left
+pub mod Left
 mod Same
-mod Durable
+pub mod Durable
 mod Entered
 mod Numbers
 mod Begun
@@ -14,7 +14,6 @@ mod Adopted
 mod Added
 mod Finding
 mod ReadAnswers
-pub mod NamedFiles
 pub mod Taken
 pub mod Legal
 pub mod Places

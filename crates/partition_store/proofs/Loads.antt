@@ -1,33 +1,33 @@
 -- What was taken in of a disk, and its files once they are trimmed, make a store.
-use Rattle.std.proofs.Common.{◌≡◌, ◌≢◌, inl, inr, ℕ, ◌+◌, ◌<◌, ◌≤◌, ◌^◌, true, false, List, [], ◌∷◌, ◌++◌, length, take, refl, sym, ◌∙◌, ap, subst, arith, Option, Some, None}
-use Rattle.std.specs.Prelude.{IfSome, min}
+use Rattle.std.proofs.Common.{◌≡◌, ◌≢◌, inl, inr, ℕ, ◌<◌, ◌^◌, true, false, List, [], ◌∷◌, ◌++◌, length, take, refl, sym, ◌∙◌, ap, subst, arith, Option, Some, None}
+use Rattle.std.specs.Prelude.{IfSome}
 use Rattle.std.specs.List.{AllByRecursion}
 use Rattle.std.proofs.lemmas.Bool.{cases_eq}
 use Rattle.std.proofs.lemmas.List.{append-nil}
 use Rattle.tx_model.specs.declared.record.Record.{Record}
 use Rattle.tx_model.specs.declared.meta.Meta.{Meta}
-use Rattle.tx_model.specs.Spelling.{IsCount}
-use Rattle.tx_model.specs.Framing.{record_len, meta_len}
+use Rattle.tx_model.specs.Framing.{record_len}
 use Rattle.tx_model.specs.Frames.{joined, frames_in}
 use Rattle.tx_model.specs.Contents.{records_in, records_of, entries_in, entries_of}
 use Rattle.disk_model.specs.File.{File, IsPlain, IsSound as IsSoundFile, settled}
-use Rattle.disk_model.specs.Frames.{IsFirm, IsAtRest}
-use Rattle.disk_model.specs.Chance.{MayLeave}
+use Rattle.disk_model.specs.Frames.{IsFirm}
 use Rattle.disk_model.specs.History.{Files, History, AtEach, Always, moments}
 use Rattle.disk_model.proofs.Firm.{firm_images}
 use Rattle.disk_model.proofs.Left.{left_of}
-use Rattle.disk_model.proofs.Moments.{each_now, each_weaker}
-use Rattle.segment_store.specs.Index.{Index, count_of, IsIndexOf, IsWholeIndexOf, IsTidy as IsTidySegment}
+use Rattle.disk_model.proofs.Moments.{each_now}
+use Rattle.segment_store.specs.Index.{Index, count_of, IsIndexOf, IsWholeIndexOf}
 use Rattle.segment_store.proofs.Loaded.{wholly-frames}
 use Rattle.meta_journal.specs.Entries.{IsTidy as IsTidyJournal}
+use Rattle.proto_model.specs.Replicas.{ReplicaState}
 use Rattle.proto_model.specs.Held.{Held, Contents, EachNamed, table_of, none_held, folded, held_in, replica_of}
 use Rattle.proto_model.specs.Damages.{Naming, last_named, FoldsSoFar}
 use Rattle.proto_model.proofs.Folding.{none_sane, folded-alike, folds-names, some-folds, named-map, named-both}
 use Rattle.proto_model.proofs.SoFar.{LastOf, so_far-last, so_far-some, none_last}
-use Rattle.partition_store.specs.Stands.{reads_of, framing_of, held_or, held_now, AreLeft, Leaves, LeavesAtEach}
-use Rattle.partition_store.specs.Stores.{Kept, IsStanding, IsClosed, AreClosed, records_by, records_at, IsLast, IsLastOf, IsFit, IsSound, IsKept}
-use Rattle.partition_store.specs.Loading.{IsLastRead, last_records, IsWholeLog, IsTailOf, IsLoadedOf, IsLoadedFit, frames_of, HoldFrames, AreFirm, IsLastFile, AreLoaded, AreRead, AreTrimmed, AreReadFrom, IsLoadedFrom}
+use Rattle.partition_store.specs.Stands.{reads_of, framing_of, held_or, held_now, AreLeft, LeavesNear, LeavesAtEach}
+use Rattle.partition_store.specs.Stores.{Kept, AreClosed, records_by, records_at, IsLastOf, IsFit, IsSound}
+use Rattle.partition_store.specs.Loading.{IsLastRead, last_records, IsWholeLog, IsTailOf, IsLoadedOf, IsLoadedFit, frames_of, HoldFrames, AreFirm, IsLastFile, AreLoaded, AreReadFrom, IsLoadedFrom, IsTrimmedOf, AreTrimmedOf}
 use Rattle.partition_store.specs.declared.taking.Loaded.{Loaded}
+use Rattle.partition_store.proofs.Left.{next_same, near_of}
 use Rattle.partition_store.proofs.FirmFiles.{framing_at, framing-records, joined-frames, named-all}
 
 -- ---- the last file
@@ -89,30 +89,39 @@ module _ (plain : Type 0) (old : Files) (h : Held) (is : held_in (reads_of old) 
   F = frames_of old
 
   -- of files whose counted frames are firm
-  firm_leaves : (s : Files) → AreFirm F s → ((q : ℕ) → IsSoundFile (s q)) → (plain → (q : ℕ) → IsPlain (s q)) → Leaves plain (λ r. r ≡ replica_of h) s
-  firm_leaves s firm sound settles c left = record {
-    held = h;
-    is = held-alike old h c is (left_frames 0 firm.journal) (named-map _ (λ q. frames_in (framing_of q) (c q) ≡ F q) (entries_of (F 0)) left_frames firm.named);
-    has = refl;
-  }
+  firm_held : (s : Files) → AreFirm F s → ((q : ℕ) → IsSoundFile (s q)) → (plain → (q : ℕ) → IsPlain (s q)) → (c : Contents) → AreLeft plain s c → held_in c ≡ Some h
+  firm_held s firm sound settles c left =
+      held-alike old h c is (left_frames 0 firm.journal) (named-map _ (λ q. frames_in (framing_of q) (c q) ≡ F q) (entries_of (F 0)) left_frames firm.named)
     where
       left_frames : (q : ℕ) → IsFirm (framing_of q) (F q) (s q) → frames_in (framing_of q) (c q) ≡ F q
       left_frames q it = left_of plain (framing_of q) (λ gs. gs ≡ F q) (s q) (sound q) (λ p. settles p q) (firm_images (framing_of q) (framing_at q) (F q) (s q) it) (c q) (left q)
 
+  firm_leaves : (s : Files) → AreFirm F s → ((q : ℕ) → IsSoundFile (s q)) → (plain → (q : ℕ) → IsPlain (s q)) → LeavesNear plain (λ r. r ≡ replica_of h) h.file s
+  firm_leaves s firm sound settles c left = near_of (λ r. r ≡ replica_of h) h.file c h (firm_held s firm sound settles c left) refl (next_same h.file)
+
+  -- a plain disk is read as a crash leaves it
+  pub held-firm : (was new : History) → AreFirm F was.now → AtEach (AreFirm F) was new → Always IsSoundFile new → (plain → Always IsPlain new) → plain → held_in (reads_of new.now) ≡ Some h
+  held-firm was new start run sound settles p =
+      firm_held new.now (each_now (AreFirm F) was new run start) sound.0 (λ it. (settles it).0) (reads_of new.now) (λ q. record { image = (sound.0 q).reads_image; no_chance = inl p })
+
   at_each : (during before : List Files) → AllByRecursion (AreFirm F) during → AllByRecursion (λ s. (q : ℕ) → IsSoundFile (s q)) (during ++ before) → (plain → AllByRecursion (λ s. (q : ℕ) → IsPlain (s q)) (during ++ before))
-      → AllByRecursion (Leaves plain (λ r. r ≡ replica_of h)) during
+      → AllByRecursion (LeavesNear plain (λ r. r ≡ replica_of h) h.file) during
   at_each [] before firm sound settles = tt
   at_each (s ∷ during) before firm sound settles = (firm_leaves s firm.0 sound.0 (λ p. (settles p).0), at_each during before firm.1 sound.1 (λ p. (settles p).1))
 
   pub leaves-firm : (was new : History) → was.now ≡ old → AreFirm F was.now → AtEach (AreFirm F) was new → Always IsSoundFile new → (plain → Always IsPlain new) → LeavesAtEach plain (λ r. r ≡ replica_of h) was new
-  leaves-firm was new same start run sound settles = record {
-    each = record {
-      during = run.during;
-      joined = run.joined;
-      each = at_each run.during (moments was) run.each (subst (λ (ss : List Files). AllByRecursion (λ s. (q : ℕ) → IsSoundFile (s q)) ss) run.joined sound) (λ p. subst (λ (ss : List Files). AllByRecursion (λ s. (q : ℕ) → IsPlain (s q)) ss) run.joined (settles p));
-    };
-    now = firm_leaves new.now (each_now (AreFirm F) was new run start) sound.0 (λ p. (settles p).0);
-  }
+  leaves-firm was new same start run sound settles =
+      let P = λ (r : ReplicaState). r ≡ replica_of h in
+      let file : (held_now was.now).file ≡ h.file = ap (λ (g : Held). g.file) (ap (λ (s : Files). held_now s) same ∙ ap held_or is) in
+      let here : (history : Files) (n : ℕ) → n ≡ h.file → LeavesNear plain P h.file history → LeavesNear plain P n history = λ history n e leaves. subst (λ (m : ℕ). LeavesNear plain P m history) (sym e) leaves in
+      record {
+        each = subst (λ (n : ℕ). AtEach (LeavesNear plain P n) was new) (sym file) (record {
+          during = run.during;
+          joined = run.joined;
+          each = at_each run.during (moments was) run.each (subst (λ (ss : List Files). AllByRecursion (λ s. (q : ℕ) → IsSoundFile (s q)) ss) run.joined sound) (λ p. subst (λ (ss : List Files). AllByRecursion (λ s. (q : ℕ) → IsPlain (s q)) ss) run.joined (settles p));
+        });
+        now = here new.now (held_now was.now).file file (firm_leaves new.now (each_now (AreFirm F) was new run start) sound.0 (λ p. (settles p).0));
+      }
 
 -- ---- the store
 
@@ -156,6 +165,21 @@ module _ (old new : Files) (end : ℕ) (entries : List Meta) (l : Loaded) (from 
 
   pub held-same : held_in (reads_of old) ≡ Some (held_now new)
   held-same = held-old ∙ ap Some (sym now_is)
+
+  -- ---- each file
+
+  trimmed_by : (o : Option Index) → IfSome o (λ i. new i.file ≡ settled (joined (frames_of old i.file))) → ((q : ℕ) → q ≢ 0 → IfSome o (λ i. q ≢ i.file) → (new q).reads ≡ (old q).reads) → (q : ℕ) → q ≢ 0 → IsTrimmedOf (framing_of q) (old q).reads (new q).reads
+  trimmed_by None last others q not = inl (others q not tt)
+  trimmed_by (Some i) last others q not = elim (cases_eq q i.file) [
+    | inl here ↦ subst (λ (n : ℕ). IsTrimmedOf (framing_of n) (old n).reads (new n).reads) (sym here) (inr (ap (λ (f : File). f.reads) last))
+    | inr other ↦ inl (others q not other)
+  ]
+
+  pub trimmed-files : AreTrimmedOf old new
+  trimmed-files q = elim (cases_eq q 0) [
+    | inl here ↦ subst (λ (n : ℕ). IsTrimmedOf (framing_of n) (old n).reads (new n).reads) (sym here) (inr (ap (λ (f : File). f.reads) from.trimmed.journal))
+    | inr other ↦ trimmed_by l.last from.trimmed.last_is from.trimmed.others q other
+  ]
 
   -- ---- the segments
 
@@ -248,6 +272,10 @@ module _ (old new : Files) (end : ℕ) (entries : List Meta) (l : Loaded) (from 
         ∙ ap (λ (rs : List Record). records_by (reads_of new) l.closed.items ++ rs) (sym (last_same l.last whole.read));
     staged = tt;
   }
+
+-- a refused one leaves what it kept
+pub shut-fit : {D : Type 0} (k : Kept D) (d : D) → IsFit k → IsFit (record k { disk = d; shut = true })
+shut-fit k d fit = record { range = fit.range; none = fit.none; order = fit.order; staged = fit.staged }
 
 pub loaded-fit : {D : Type 0} (d : D) (end : ℕ) (l : Loaded) → IsLoadedFit l → l.wrong ≡ None → IsFit (record { disk = d; journal = end; status = l.status; closed = l.closed.items; last = l.last; staged = None; shut = false })
 loaded-fit d end l fit none = record {

@@ -1,19 +1,18 @@
 -- A promise and a low mark, over the history of the disk.
-use Rattle.std.proofs.Common.{◌≡◌, ◌≢◌, ℕ, ◌+◌, ◌<◌, ◌≤◌, ◌++◌, true, List, [], ◌∷◌, length, refl, sym, ◌∙◌, ap, subst, arith, Option, Some, None}
+use Rattle.std.proofs.Common.{◌≡◌, ◌≢◌, ℕ, ◌+◌, ◌<◌, ◌≤◌, [], length, refl, sym, ◌∙◌, ap, subst, arith, Option, Some, None}
 use Rattle.std.specs.Prelude.{nat_le, nat_lt}
 use Rattle.std.proofs.lemmas.Bool.{and_from, le-leb, lt-ltb}
 use Rattle.tx_model.specs.Records.{IsPlace}
-use Rattle.tx_model.specs.declared.meta.Meta.{Meta}
 use Rattle.tx_model.specs.declared.meta.Meta.TheVariants.{Promise, Low}
-use Rattle.disk_model.specs.File.{File}
 use Rattle.disk_model.specs.History.{Files, History, EachMoment}
 use Rattle.meta_journal.specs.Entries.{entries_at, HasEntry, EachLeftHas, IsEntered}
 use Rattle.segment_store.specs.Index.{Index}
-use Rattle.proto_model.specs.Held.{Held, IsTaken, held_after, replica_of, table_of, held_in}
+use Rattle.proto_model.specs.Held.{Held, IsTaken, replica_of, table_of}
 use Rattle.proto_model.specs.Parts.{promised_to, lowered_to}
 use Rattle.partition_store.specs.Stands.{reads_of, held_now, LeavesAtEach, IsOldOrNew}
 use Rattle.partition_store.specs.Stores.{Kept, state_by, state_of, records_at, staged_count, AreStagedFrom, IsFit, IsStagedOf, IsSound}
 use Rattle.partition_store.proofs.Same.{same_closed, same_last, same_log}
+use Rattle.partition_store.proofs.Left.{next_same}
 use Rattle.partition_store.proofs.Entered.{enters, enter_held, enter_now, enter_plain}
 
 pub promised_fit : {D : Type 0} (k : Kept D) (session : ℕ) (disk : D) (end : ℕ) → k.status.promised < session → IsPlace session → IsFit k → IsFit (record k { disk = disk; journal = end; status = record k.status { promised = session }; staged = None })
@@ -47,7 +46,7 @@ module _ {D : Type 0} (plain : Type 0) (history : D → History) (k : Kept D) (s
 
     pub promises : (new : History) → EachMoment 0 (EachLeftHas plain (HasEntry (entries_at (history k.disk)) (Promise session))) (history k.disk) new
         → LeavesAtEach plain (IsOldOrNew (state_by history k) (promised_to (state_by history k) session)) (history k.disk) new
-    promises new run = enters plain old k sound (Promise session) promise_taken tt new run
+    promises new run = enters plain old k sound (Promise session) promise_taken tt (next_same h.file) new run
 
     module _ (disk : D) (end : ℕ) (entered : IsEntered (Promise session) end (history k.disk) (history disk)) (others : (q : ℕ) → q ≢ 0 → (history disk).now q ≡ (history k.disk).now q) where
       then : held_now (history disk).now ≡ record h { promised = session }
@@ -94,7 +93,7 @@ module _ {D : Type 0} (plain : Type 0) (history : D → History) (k : Kept D) (s
 
     pub lowers : (new : History) → EachMoment 0 (EachLeftHas plain (HasEntry (entries_at (history k.disk)) (Low low))) (history k.disk) new
         → LeavesAtEach plain (IsOldOrNew (state_by history k) (lowered_to (state_by history k) low)) (history k.disk) new
-    lowers new run = enters plain old k sound (Low low) low_taken tt new run
+    lowers new run = enters plain old k sound (Low low) low_taken tt (next_same h.file) new run
 
     module _ (disk : D) (end : ℕ) (entered : IsEntered (Low low) end (history k.disk) (history disk)) (others : (q : ℕ) → q ≢ 0 → (history disk).now q ≡ (history k.disk).now q) where
       then_low : held_now (history disk).now ≡ record h { low = low }

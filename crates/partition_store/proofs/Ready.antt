@@ -1,13 +1,13 @@
 -- The file of the staged records is put on the disk.
-use Rattle.std.proofs.Common.{◌≡◌, ◌≢◌, ℕ, ◌+◌, List, [], length, refl, sym, ◌∙◌, ap, subst, arith, Option, Some, None}
+use Rattle.std.proofs.Common.{◌≡◌, ◌≢◌, ℕ, ◌+◌, List, [], length, refl, sym, ◌∙◌, ap, subst, Option, Some, None}
 use Rattle.tx_model.specs.declared.record.Record.{Record}
 use Rattle.tx_model.specs.Contents.{records_in}
-use Rattle.disk_model.specs.File.{File, IsPlain, settled}
+use Rattle.disk_model.specs.File.{File, settled}
 use Rattle.disk_model.specs.History.{Files, History}
 use Rattle.segment_store.specs.Index.{Index, IsIndexOfAll}
 use Rattle.proto_model.specs.Held.{Held, replica_of}
 use Rattle.partition_store.specs.Stands.{held_now}
-use Rattle.partition_store.specs.Stores.{Kept, state_by, state_of, staged_count, records_at, IsReady, IsStagedOf, IsSound}
+use Rattle.partition_store.specs.Stores.{Kept, state_by, state_of, records_at, IsReady, IsStagedOf, IsSound}
 use Rattle.partition_store.proofs.Aside.{aside_sound, aside_now, next_is}
 
 staged_as : (s t : Files) (h : Held) (file : ℕ) → file ≡ h.file + 1 → (t file).reads ≡ (s file).reads → (o : Option Index) → IsStagedOf s h o → IsStagedOf t h o × (records_at t o ≡ records_at s o)

@@ -1,13 +1,13 @@
 -- Files of which those that hold records of the log are as they were.
-use Rattle.std.proofs.Common.{◌≡◌, ◌≢◌, ℕ, ◌+◌, ◌<◌, ◌≤◌, List, [], ◌∷◌, ◌++◌, length, take, refl, sym, ◌∙◌, ap, subst, arith, Option, Some, None}
+use Rattle.std.proofs.Common.{◌≡◌, ℕ, ◌<◌, ◌≤◌, List, [], ◌∷◌, ◌++◌, take, refl, sym, ◌∙◌, ap, subst, arith, Option, Some, None}
 use Rattle.tx_model.specs.declared.record.Record.{Record}
 use Rattle.tx_model.specs.Contents.{records_in}
 use Rattle.disk_model.specs.File.{File}
 use Rattle.disk_model.specs.History.{Files}
 use Rattle.segment_store.specs.Index.{Index, count_of, IsIndexOf, IsTidy as IsTidySegment}
 use Rattle.proto_model.specs.Held.{Held, Contents}
-use Rattle.partition_store.specs.Stands.{reads_of, held_now}
-use Rattle.partition_store.specs.Stores.{Kept, IsClosed, AreClosed, records_by, records_at, IsLast, IsLastOf, IsStagedOf, IsSound}
+use Rattle.partition_store.specs.Stands.{reads_of}
+use Rattle.partition_store.specs.Stores.{AreClosed, records_by, records_at, IsLastOf}
 
 pub closed_same : (c d : Contents) (top : ℕ) (is : List Index) → ((q : ℕ) → 1 < q → q < top → d q ≡ c q) → AreClosed c top is → AreClosed d top is
 closed_same c d top [] same all = tt

@@ -1,9 +1,8 @@
 -- Records that are staged.
-use Rattle.std.proofs.Common.{◌≡◌, ◌≢◌, ℕ, ◌+◌, ◌<◌, ◌≤◌, ◌^◌, List, [], ◌++◌, length, refl, sym, ◌∙◌, ap, subst, arith, Option, Some, None}
+use Rattle.std.proofs.Common.{◌≡◌, ◌≢◌, ℕ, ◌+◌, ◌<◌, List, [], ◌++◌, length, sym, ◌∙◌, ap, subst, arith, Option, Some, None}
 use Rattle.tx_model.specs.declared.record.Record.{Record}
 use Rattle.tx_model.specs.Records.{RiseByOne}
 use Rattle.tx_model.specs.Contents.{records_in}
-use Rattle.disk_model.specs.File.{File}
 use Rattle.disk_model.specs.History.{Files, History}
 use Rattle.segment_store.specs.Index.{Index, count_of, IsIndexOfAll}
 use Rattle.proto_model.specs.Held.{Held, replica_of}

@@ -1,7 +1,6 @@
 -- Entries taken in while a store is loaded, with the files that they name.
 use Rattle.std.proofs.Common.{◌≡◌, inl, inr, ℕ, ◌+◌, ◌-◌, ◌<◌, ◌≤◌, ◌^◌, true, List, [], ◌∷◌, ◌++◌, length, take, refl, sym, ◌∙◌, ap, subst, arith, length-append, Option, Some, None}
 use Rattle.std.specs.Prelude.{min, IfNone, IfSome}
-use Rattle.std.specs.List.{AllByRecursion}
 use Rattle.std.specs.Option.{option_to_list}
 use Rattle.std.proofs.lemmas.List.{append-nil, take_all, take-append-le, length-take-le}
 use Rattle.tx_model.specs.declared.record.Record.{Record}
@@ -14,15 +13,15 @@ use Rattle.tx_model.proofs.RisingIds.{none-rise, ids_rise-take}
 use Rattle.segment_store.specs.Index.{Index, count_of, IsWholeIndexOf, IsLoadable, IsDamagedWithin, IsDamagedBehind}
 use Rattle.segment_store.proofs.Indexing.{index-count}
 use Rattle.segment_store.proofs.Loaded.{wholly-frames}
-use Rattle.proto_model.specs.Held.{Held, Contents, table_of, none_held, is_legal, held_after, IfNames}
+use Rattle.proto_model.specs.Held.{Held, Contents, table_of, none_held, is_legal, held_after}
 use Rattle.proto_model.specs.Damages.{Naming, named_by, or_before, last_named, IsTakenSoFar, FoldsSoFar, Reached, end, names, IsDamaged}
-use Rattle.proto_model.proofs.Folding.{IsSane, none_sane}
+use Rattle.proto_model.proofs.Folding.{none_sane}
 use Rattle.proto_model.proofs.SoFar.{so_far-none, so_far-more, so_far-sane, ids_joined, IsCounted, counted-named}
 use Rattle.proto_model.proofs.WrongFrames.{length-records, damaged-records}
-use Rattle.partition_store.specs.Stores.{IsClosed, AreClosed, IsChain, AreInOrder, records_by}
+use Rattle.partition_store.specs.Stores.{AreClosed, IsChain, AreInOrder, records_by}
 use Rattle.partition_store.specs.Loading.{IsLastRead, last_records, IsWholeLog, IsWrongTail, IsTailOf, IsLoadedOf}
 use Rattle.partition_store.specs.declared.taking.Loaded.{Loaded}
-use Rattle.partition_store.proofs.NamedFiles.{names-if, NamesWithin, names-within, named-after, last_named-more}
+use Rattle.proto_model.proofs.NamedFiles.{names-if, NamesWithin, names-within, named-after, last_named-more}
 use Rattle.partition_store.proofs.Chains.{chain-more, closed-append, records_by-append}
 
 -- ---- a file that was read

@@ -1,12 +1,12 @@
 -- The calls by which a loading cuts tails away and syncs files, one after the other.
-use Rattle.std.proofs.Common.{◌≡◌, ◌≢◌, inl, inr, ℕ, ◌<◌, List, length, take, refl, sym, ◌∙◌, ap, subst, arith, Option, Some, None}
+use Rattle.std.proofs.Common.{◌≡◌, ◌≢◌, inl, inr, ℕ, List, take, sym, ◌∙◌, ap, subst, arith, Option, Some, None}
 use Rattle.std.specs.Prelude.{IfSome}
 use Rattle.std.proofs.lemmas.Bool.{cases_eq}
 use Rattle.tx_model.specs.declared.meta.Meta.{Meta}
 use Rattle.tx_model.specs.Frames.{joined, frames_in}
-use Rattle.tx_model.specs.Contents.{entries_in, entries_of}
+use Rattle.tx_model.specs.Contents.{entries_of}
 use Rattle.disk_model.specs.File.{File, IsDuring, IsPlain, IsSound, settled, shortened}
-use Rattle.disk_model.specs.History.{Files, History, EachMoment, AtEach, Always}
+use Rattle.disk_model.specs.History.{History, EachMoment, AtEach, Always}
 use Rattle.disk_model.proofs.Moments.{and_then, each_now}
 use Rattle.segment_store.specs.Index.{Index, IsWholeIndexOf}
 use Rattle.proto_model.specs.Held.{EachNamed}

@@ -1,10 +1,10 @@
 -- Files without a tail, of which a segment has all records.
-use Rattle.std.proofs.Common.{◌≡◌, ℕ, ◌+◌, ◌<◌, ◌≤◌, ◌^◌, List, [], ◌∷◌, ◌++◌, length, sym, ◌∙◌, ap, subst, arith}
+use Rattle.std.proofs.Common.{◌≡◌, ℕ, ◌+◌, ◌<◌, ◌≤◌, ◌^◌, List, [], ◌∷◌, length, sym, ◌∙◌, ap, subst, arith}
 use Rattle.tx_model.specs.declared.record.Record.{Record}
 use Rattle.tx_model.specs.Records.{RiseByOne}
 use Rattle.tx_model.specs.Contents.{records_of, records_in}
 use Rattle.disk_model.specs.File.{File, IsPlain, settled}
-use Rattle.segment_store.specs.Index.{Index, count_of, IsIndexOf, IsIndexOfAll, IsTidy as IsTidySegment}
+use Rattle.segment_store.specs.Index.{Index, count_of, IsIndexOfAll, IsTidy as IsTidySegment}
 use Rattle.segment_store.proofs.Indexing.{index-count, length-records_of}
 use Rattle.segment_store.proofs.Staged.{all-frames}
 

@@ -1,5 +1,5 @@
 -- Loading a store: what was taken in so far of its files, and what holds of a disk that is loaded from.
-use Rattle.std.specs.Prelude.{◌≡◌, ◌≢◌, IfSome, ℕ, ◌-◌, ◌<◌, ◌≤◌, ◌^◌, min, true, List, [], ◌++◌, length, Option, Some, None, Result, Ok, Err}
+use Rattle.std.specs.Prelude.{◌≡◌, ◌≢◌, ◌⊎◌, IfSome, ℕ, ◌-◌, ◌<◌, ◌≤◌, ◌^◌, min, true, List, [], ◌++◌, length, Option, Some, None, Result, Ok, Err}
 use Rattle.tx_model.specs.declared.record.Record.{Record}
 use Rattle.tx_model.specs.declared.meta.Meta.{Meta}
 use Rattle.tx_model.specs.declared.meta.Meta.TheVariants.{Promise, Adopt, Low, Roll, Value}
@@ -123,6 +123,13 @@ pub record AreTrimmed (last : Option Index) (entries : List Meta) (old new : Fil
   pub last_is : IfSome last (λ i. new i.file ≡ settled (joined (frames_of old i.file)))
   pub others : (q : ℕ) → q ≢ 0 → IfSome last (λ i. q ≢ i.file) → (new q).reads ≡ (old q).reads
   pub named : EachNamed (λ q. IsPlain (new q)) entries
+
+-- a tail that holds no frame was cut away, or nothing was
+abbrev pub IsTrimmedOf : (List ℕ → ℕ) → List ℕ → List ℕ → Type 0
+IsTrimmedOf len old new = (new ≡ old) ⊎ (new ≡ joined (frames_in len old))
+
+abbrev pub AreTrimmedOf : Files → Files → Type 0
+AreTrimmedOf old new = (q : ℕ) → IsTrimmedOf (framing_of q) (old q).reads (new q).reads
 
 -- All of it was read and taken in.
 pub record AreReadFrom (s : Files) (end : ℕ) (entries : List Meta) (l : Loaded) : Type 0 where

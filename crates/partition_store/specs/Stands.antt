@@ -1,7 +1,6 @@
 -- What the files of a store stand for as they are read, and what a crash leaves of that.
-use Rattle.std.specs.Prelude.{◌≡◌, ◌⊎◌, ℕ, ◌≤◌, nat_lt, if◌then◌else◌, List, ◌++◌, length, take, Option, Some, None}
+use Rattle.std.specs.Prelude.{◌≡◌, ◌⊎◌, ℕ, ◌+◌, ◌≤◌, nat_lt, if◌then◌else◌, List, ◌++◌, length, take, Option, Some, None}
 use Rattle.tx_model.specs.declared.record.Record.{Record}
-use Rattle.tx_model.specs.declared.meta.Meta.{Meta}
 use Rattle.tx_model.specs.Framing.{record_len, meta_len}
 use Rattle.tx_model.specs.Contents.{entries_in}
 use Rattle.disk_model.specs.File.{IsPlain}
@@ -35,10 +34,24 @@ AreLeft plain s c = (q : ℕ) → MayLeave plain (framing_of q) (s q) (c q)
 abbrev pub Leaves : Type 0 → (ReplicaState → Type 0) → Files → Type 0
 Leaves plain P s = (c : Contents) → AreLeft plain s c → Stands P c
 
--- at each moment since old, up to and with new, whatever a crash may leave stands for a state that has P
+-- the same number of a file, or the next
+pub record IsNext (file next : ℕ) : Type 0 where
+  pub from : file ≤ next
+  pub to : next ≤ file + 1
+
+-- the files stand for a state that has P, and the greatest of them is this one or the next
+pub record StandsNear (P : ReplicaState → Type 0) (file : ℕ) (c : Contents) : Type 0 where
+  pub stands : Stands P c
+  pub near : IsNext file stands.held.file
+
+abbrev pub LeavesNear : Type 0 → (ReplicaState → Type 0) → ℕ → Files → Type 0
+LeavesNear plain P file s = (c : Contents) → AreLeft plain s c → StandsNear P file c
+
+-- At each moment since old, up to and with new, whatever a crash may leave stands for a state that has P. No file is used
+-- behind the next.
 pub record LeavesAtEach (plain : Type 0) (P : ReplicaState → Type 0) (old new : History) : Type 0 where
-  pub each : AtEach (Leaves plain P) old new
-  pub now : Leaves plain P new.now
+  pub each : AtEach (LeavesNear plain P (held_now old.now).file) old new
+  pub now : LeavesNear plain P (held_now old.now).file new.now
 
 -- the old state or the new one, without what is staged
 abbrev pub IsOldOrNew : ReplicaState → ReplicaState → ReplicaState → Type 0

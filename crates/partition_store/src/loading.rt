@@ -1,5 +1,5 @@
 //! Loading: the journal and the files that its entries name are read, and only then are tails cut away.
-ghost use Rattle.std.specs.Prelude.{◌≡◌, ℕ, false, None, Some, IfOk, IsErrOf};
+ghost use Rattle.std.specs.Prelude.{◌≡◌, ℕ, false, true, None, Some, IfOk, OnOk, OnErr, IsErrOf};
 ghost use Rattle.disk_model.specs.History.{AtEach, KeepsWorking};
 ghost use Rattle.disk_model.specs.LoadFaults.{IfDamaged, IsNotDamaged, HasDiskCause};
 ghost use Rattle.disk_model.specs.declared.unloaded.LoadFault.TheVariants.{Disk as Broke, Memory as NoMemory};
@@ -7,7 +7,7 @@ ghost use Rattle.proto_model.specs.Held.{Held, held_in, replica_of};
 ghost use Rattle.proto_model.specs.Damages.{IsDamaged};
 ghost use Rattle.partition_store.specs.Stands.{reads_of, held_now, LeavesAtEach};
 ghost use Rattle.partition_store.specs.Stores.{state_by, IsDurable};
-ghost use Rattle.partition_store.specs.Loading.{IsLoadedFit, AreReadFrom, IsLoadedFrom, frames_of, AreFirm, HasFirmFiles, disk_of, answer_of};
+ghost use Rattle.partition_store.specs.Loading.{IsLoadedFit, AreReadFrom, IsLoadedFrom, frames_of, AreFirm, HasFirmFiles, AreTrimmedOf, disk_of, answer_of};
 
 use crate::Store;
 use crate::taking::{Loaded, take_all};
@@ -82,6 +82,10 @@ impl<D: Disk> Store<D> {
             IsDurable D.plain (D.history store.disk).now store) }
         ensures fresh { IfOk result (λ store. (store.staged ≡ None) × (store.shut ≡ false)) }
 
+        // Each file has lost a tail that holds no frame, or nothing.
+        ensures files { IfOk result (λ store. D.tells →
+            AreTrimmedOf (D.history disk).now (D.history store.disk).now) }
+
         // A place is damaged exactly so, and then the disk is as it was.
         ensures damaged { IfDamaged (answer_of result) (λ file at. D.tells →
             IsDamaged (reads_of (D.history disk).now) file at
@@ -101,6 +105,9 @@ impl<D: Disk> Store<D> {
 
         // On a plain disk it is always so.
         ensures plain { D.tells → D.plain → HasFirmFiles (D.history disk).now }
+        ensures kept { D.tells → D.plain → (h : Held) →
+            held_in (reads_of (D.history disk).now) ≡ Some h →
+            held_in (reads_of (D.history (disk_of result)).now) ≡ Some h }
 
         // After want of memory the files stand for what they stood for, if for anything.
         ensures memory { IsErrOf (answer_of result) NoMemory → D.tells →
@@ -130,6 +137,69 @@ impl<D: Disk> Store<D> {
                 })
             }
             Err(fault) => Err(Unloaded { disk, fault }),
+        }
+    }
+
+    /// Loads it again from its own disk, also where it is shut. What is staged is lost.
+    ///
+    /// It takes its disk through the same calls as `load`. A refused one leaves it shut, and showing what it showed.
+    pub fn reload(&mut self) -> Result<(), LoadFault>
+        ensures held { OnOk result (D.tells →
+            held_in (reads_of (D.history self.old.disk).now)
+            ≡ Some (held_now (D.history self.new.disk).now)) }
+        ensures state { OnOk result (D.tells →
+            state_by D.history self.new ≡ replica_of (held_now (D.history self.new.disk).now)) }
+        ensures durable { OnOk result (D.tells →
+            IsDurable D.plain (D.history self.new.disk).now self.new) }
+        ensures fresh { OnOk result ((self.new.staged ≡ None) × (self.new.shut ≡ false)) }
+        ensures files { OnOk result (D.tells →
+            AreTrimmedOf (D.history self.old.disk).now (D.history self.new.disk).now) }
+        ensures refused { OnErr result
+            (self.new ≡ record self.old { disk = self.new.disk; shut = true }) }
+
+        // As for `load`.
+        ensures damaged { IfDamaged result (λ file at. D.tells →
+            IsDamaged (reads_of (D.history self.old.disk).now) file at
+            × (D.history self.new.disk ≡ D.history self.old.disk)) }
+        ensures not_damaged { D.tells → (h : Held) →
+            held_in (reads_of (D.history self.old.disk).now) ≡ Some h → IsNotDamaged result }
+        ensures firm { D.tells → HasFirmFiles (D.history self.old.disk).now →
+            AtEach (AreFirm (frames_of (D.history self.old.disk).now))
+            (D.history self.old.disk) (D.history self.new.disk) }
+        ensures any_moment { D.tells → HasFirmFiles (D.history self.old.disk).now → (h : Held) →
+            held_in (reads_of (D.history self.old.disk).now) ≡ Some h →
+            LeavesAtEach D.plain (λ r. r ≡ replica_of h)
+            (D.history self.old.disk) (D.history self.new.disk) }
+        ensures plain { D.tells → D.plain → HasFirmFiles (D.history self.old.disk).now }
+        ensures kept { D.tells → D.plain → (h : Held) →
+            held_in (reads_of (D.history self.old.disk).now) ≡ Some h →
+            held_in (reads_of (D.history self.new.disk).now) ≡ Some h }
+        ensures memory { IsErrOf result NoMemory → D.tells →
+            held_in (reads_of (D.history self.new.disk).now)
+            ≡ held_in (reads_of (D.history self.old.disk).now) }
+        ensures cause { HasDiskCause (D.faults self.old.disk) (D.faults self.new.disk) result }
+        ensures keeps { KeepsWorking D.reliable D.unfailing self.old.disk self.new.disk
+            (IsErrOf result Broke) }
+    {
+        match load_parts(self.alloc, &mut self.disk) {
+            Ok(parts) => {
+                let Parts {
+                    journal,
+                    loaded,
+                    ..
+                } = parts;
+                self.journal = journal;
+                self.status = loaded.status;
+                self.closed = loaded.closed;
+                self.last = loaded.last;
+                self.staged = None;
+                self.shut = false;
+                Ok(())
+            }
+            Err(fault) => {
+                self.shut = true;
+                Err(fault)
+            }
         }
     }
 }

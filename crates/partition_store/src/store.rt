@@ -1,6 +1,7 @@
 //! A store, and what is known of it without its disk.
-ghost use Rattle.std.specs.Prelude.{◌≡◌, ◌+◌};
+ghost use Rattle.std.specs.Prelude.{◌≡◌, ◌↔◌, ◌+◌, true, None};
 ghost use Rattle.tx_model.specs.Spelling.{IsCount};
+ghost use Rattle.disk_model.specs.declared.fuse.Fuse.TheVariants.{Off};
 ghost use Rattle.disk_model.specs.MemDisk.{renewed};
 ghost use Rattle.partition_store.specs.Stores.{staged_count, IsInRange};
 
@@ -66,6 +67,7 @@ impl<D: Disk> Store<D> {
 
     /// How many records are staged.
     pub fn staged(&self) -> u64
+        ensures none { result ≡ 0 ↔ (self.now.staged ≡ None) }
         ensures value { result ≡ staged_count self.now.staged }
         ensures range { IsCount (self.now.status.low + result) }
     {
@@ -80,6 +82,13 @@ impl<D: Disk> Store<D> {
         ensures { result ≡ self.now.shut }
     {
         self.shut
+    }
+
+    /// Closes it, so that only loading it again goes on.
+    pub fn shut(&mut self)
+        ensures { self.new ≡ record self.old { shut = true } }
+    {
+        self.shut = true;
     }
 
     /// The disk.
@@ -105,5 +114,12 @@ impl Store<MemDisk> {
         } }
     {
         self.disk.fuse(bytes);
+    }
+
+    /// Takes the fuse of its disk away. Its state and its files stay as they are.
+    pub fn crash(&mut self)
+        ensures { self.new ≡ record self.old { disk = record self.old.disk { fuse = Off } } }
+    {
+        self.disk.crash();
     }
 }

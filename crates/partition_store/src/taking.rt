@@ -4,7 +4,7 @@ ghost use Rattle.std.specs.Prelude.{◌≡◌, ◌↔◌, ◌+◌, ◌-◌, ◌<
 ghost use Rattle.std.specs.List.{flat_map};
 ghost use Rattle.tx_model.specs.declared.meta.Meta.{Meta as MetaValue};
 ghost use Rattle.tx_model.specs.declared.meta.Meta.TheVariants.{Adopt, Roll};
-ghost use Rattle.tx_model.specs.Spelling.{IsMeta, IsNextPlace, meta_body, meta_frame};
+ghost use Rattle.tx_model.specs.Spelling.{IsMeta, IsNextPlace, meta_frame};
 ghost use Rattle.tx_model.specs.Contents.{entries_in};
 ghost use Rattle.disk_model.specs.History.{KeepsWorking};
 ghost use Rattle.disk_model.specs.LoadFaults.{IfDamaged, HasDiskCause};
@@ -17,26 +17,10 @@ ghost use Rattle.partition_store.specs.Loading.{IsLoadedOf, IsLoadedFit, AreLoad
 use crate::closing::retire;
 use disk_model::{Disk, LoadFault};
 use proto_model::Status;
+use record_frame::meta_frame_len;
 use segment_store::Segment;
 use std::alloc::Global;
 use tx_model::Meta;
-
-fn body_len(meta: Meta) -> u32
-    ensures { result ≡ length (meta_body meta) }
-{
-    match meta {
-        Meta::Promise(_) | Meta::Low(_) | Meta::Value(_) => 9,
-        Meta::Roll(_, _) => 13,
-        Meta::Adopt(_, _, _, _) => 29,
-    }
-}
-
-// How many bytes the one frame of an entry has.
-fn meta_frame_len(meta: &Meta) -> usize
-    ensures { result ≡ length (meta_frame meta.now) }
-{
-    12 + body_len(*meta) as usize
-}
 
 // What was taken in so far.
 #[derive(Drop)]

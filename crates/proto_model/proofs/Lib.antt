@@ -3,6 +3,7 @@ pub mod SaneSteps
 pub mod SaneServers
 pub mod Folding
 pub mod SoFar
+pub mod NamedFiles
 pub mod WrongFrames
 pub mod DamagedFiles
 pub mod Examples

@@ -115,6 +115,10 @@ pub trait Crashing: Replica {
     fn step_torn(&mut self, m: &ToNode, keep: u64) -> Result<(), NodeFault>
         requires { IsValidToNode m.now }
         ensures torn { OnOk result (IsCrashOf (Self.state self.old) m.now (Self.state self.new)) }
+
+        // Where no byte is let through, no call succeeds, and it stops before the step.
+        ensures unbegun { keep ≡ 0 → OnOk result (Self.state self.new ≡ unstaged (Self.state self.old)) }
+
         ensures on { OnOk result (Self.shut self.new ≡ false) }
         ensures was_shut { (IsErrOf result IsShut → Self.shut self.old ≡ true)
             × (Self.shut self.old ≡ true → IsErrOf result IsShut × (self.new ≡ self.old)) }

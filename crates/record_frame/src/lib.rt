@@ -20,7 +20,7 @@ pub use laws::{
     records_have_one_spelling, records_stand_alone,
 };
 pub use layout::{after_lists, is_body, is_name, is_transaction, split_name, u32_in, u64_in};
-pub use meta::{META_FRAME, decode_meta, encode_meta};
+pub use meta::{META_FRAME, decode_meta, encode_meta, meta_frame_len};
 pub use ranges::{is_count, is_next_place, is_place};
 pub use reading::{check_record, decode_record, framed_id, locks_of, record_of, transaction_of};
 pub use writing::{body_len, encode_record, put_locks, put_name, put_record, put_transaction};

@@ -128,6 +128,14 @@ fn body_len(meta: Meta) -> u32
     }
 }
 
+/// The length of an entry's one frame.
+pub fn meta_frame_len(meta: &Meta) -> usize
+    ensures len { result ≡ length (meta_frame meta.now) }
+    ensures short { result ≤ META_FRAME }
+{
+    12 + body_len(*meta) as usize
+}
+
 /// Puts an entry's kind and its first number behind the length.
 fn put_kind(into: &mut [u8], kind: u8, n: u64) -> usize
     requires { 13 ≤ length into.old }

@@ -1,5 +1,5 @@
 -- Keys, and words that are lists of keys with a comma between them.
-use Rattle.std.proofs.Common.{◌≡◌, ◌≢◌, ℕ, zero, suc, ◌<◌, ◌≤◌, Bool, true, false, eqb, List, [], ◌∷◌, ◌++◌, length, get_or, arith, refl, sym, ◌∙◌, ap, subst, codes}
+use Rattle.std.proofs.Common.{◌≡◌, ◌≢◌, ℕ, ◌<◌, ◌≤◌, Bool, true, false, eqb, List, [], ◌∷◌, ◌++◌, length, get_or, arith, refl, sym, ◌∙◌, ap, subst, codes}
 use Rattle.std.specs.Prelude.{◌&&◌, ◌↔◌, IsTrue, flat_map}
 use Rattle.std.specs.List.{All, AllByRecursion, list_all, slice_split, join_with_byte}
 use Rattle.std.proofs.lemmas.Bool.{and_parts, and_from}
@@ -44,11 +44,6 @@ each_byte P holds [] is = tt
 each_byte P holds (b ∷ bytes) is =
     let parts = and_parts (is_key_byte b) (are_key_bytes bytes) is in
     (holds b (key_byte_range b parts.0), each_byte P holds bytes parts.1)
-
-pub small_byte : (bytes : List ℕ) (i : ℕ) → are_key_bytes bytes ≡ true → i < length bytes → get_or bytes i 0 < 128
-small_byte [] i is within = absurd (omega arith)
-small_byte (b ∷ bytes) zero is within = let range = key_byte_range b (and_parts (is_key_byte b) (are_key_bytes bytes) is).0 in omega arith
-small_byte (b ∷ bytes) (suc i) is within = small_byte bytes i (and_parts (is_key_byte b) (are_key_bytes bytes) is).1 (omega arith)
 
 no_spaces : (bytes : List ℕ) → AllByRecursion (λ b. b ≢ 32) bytes → HasNoSpace bytes
 no_spaces [] none = tt

@@ -12,7 +12,4 @@ pub mod BuildLemmas
 pub mod TableLemmas
 pub mod RangeLemmas
 pub mod LawLemmas
-pub mod AppendLemmas
-pub mod EventLemmas
 pub mod PrintLemmas
-pub mod LineLaws

@@ -7,7 +7,4 @@ pub mod Spellings
 pub mod Places
 pub mod Found
 pub mod ReadingLaws
-pub mod Events
-pub mod Parts
 pub mod Outcomes
-pub mod Laws

@@ -1,6 +1,5 @@
 -- Words with single spaces between them, and numbers as words.
-use Rattle.std.specs.Prelude.{◌≡◌, ◌≢◌, ℕ, List, [], ◌∷◌, ◌++◌, decimal, ⊤}
-use Rattle.net_model.specs.Clusters.{IsWithin}
+use Rattle.std.specs.Prelude.{◌≡◌, ◌≢◌, ℕ, List, [], ◌∷◌, ◌++◌, ⊤}
 
 -- no byte of these is a space
 abbrev pub HasNoSpace : List ℕ → Type 0
@@ -17,11 +16,3 @@ pub record IsCut (text word rest : List ℕ) : Type 0 where
   pub text_is : text ≡ word ++ rest
   pub plain : HasNoSpace word
   pub ends : EndsWord rest
-
--- no number from 1 to the most is spelled so
-abbrev pub IsNoneWithin : ℕ → List ℕ → Type 0
-IsNoneWithin most text = (n : ℕ) → IsWithin most n → text ≢ decimal n
-
--- no number from 1 to the most, and then a space, are in front
-abbrev pub IsNoneFirst : ℕ → List ℕ → Type 0
-IsNoneFirst most text = (n : ℕ) (rest : List ℕ) → IsWithin most n → text ≢ decimal n ++ 32 ∷ rest

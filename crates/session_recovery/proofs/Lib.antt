@@ -1,5 +1,4 @@
 pub mod Choosing
-pub mod Parts
 pub mod Counts
 pub mod Knowing
 pub mod SoundSteps

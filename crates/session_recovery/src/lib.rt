@@ -1,7 +1,6 @@
 //! A session's recovery: which node's log goes on, and how the nodes come to have it.
 #![tactic(auto)]
 
-mod batches;
 mod choice;
 mod draft;
 mod nodes;

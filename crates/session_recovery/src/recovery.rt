@@ -9,7 +9,6 @@ ghost use Rattle.proto_model.specs.Sending.{next_message};
 ghost use Rattle.proto_model.specs.Validity.{IsValidToNode};
 ghost use Rattle.session_recovery.specs.Recovering.{config_of, state_of};
 
-use crate::batches::batch_after;
 use crate::{Draft, Nodes};
 use proto_model::{Report, ToNode};
 use std::alloc::{AllocError, Global};
@@ -154,7 +153,7 @@ impl Recovery {
         ensures { IfOk result (λ m. m ≡ ToNode.Stage (state_of self.now).session
             (take 8 (drop from (take upto self.now.log)))) }
     {
-        let batch = batch_after(self.alloc, &self.log[..upto as usize], from)?;
+        let batch = Batch::after(self.alloc, &self.log[..upto as usize], from)?;
         Ok(ToNode::Stage(self.nodes.session(), batch))
     }
 

@@ -1,17 +1,5 @@
-//! Tests of lines and of the program, over what they make public.
+//! Tests of the program, over what it makes public.
 #![tactic(auto)]
 
 #[cfg(test)]
-mod devices;
-#[cfg(test)]
-mod lines;
-#[cfg(test)]
-mod outcomes;
-#[cfg(test)]
-mod pools;
-#[cfg(test)]
-mod reading;
-#[cfg(test)]
 mod replays;
-#[cfg(test)]
-mod schedules;

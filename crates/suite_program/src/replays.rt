@@ -49,46 +49,54 @@ fn pieces_do_not_matter(rt: HostRuntime) -> Result<(), Fail> {
 }
 
 #[test]
-fn lines_that_no_schedule_has(rt: HostRuntime) -> Result<(), Fail> {
-    for schedule in [
-        "\n",
-        "cluster 1 1 1 0 64\n",
-        "cluster 1 1 1 9 64\n",
-        "cluster 1 1 1 2 4097\n",
-        "cluster 1 1 1 2\n",
-        "cluster 1 1 1 2 64 \n",
-        "cluster 1 1 1 02 64\n",
-        "Cluster 1 1 1 2 64\n",
+fn first_lines_that_no_schedule_has(rt: HostRuntime) -> Result<(), Fail> {
+    for (schedule, want) in [
+        ("", "! line 1 at 1\n"),
+        ("\n", "! line 1 at 1\n"),
+        ("Cluster 1 1 1 2 64\n", "! line 1 at 1\n"),
+        ("cluster 1 1 1 2\n", "! line 1 at 16\n"),
+        ("cluster 1 1 1 02 64\n", "! line 1 at 16\n"),
+        ("cluster 1 1 1 2 64 \n", "! line 1 at 19\n"),
+        ("cluster 8 1 1 2 64\n", "! line 1 range nodes\n"),
+        ("cluster 1 10 0 2 64\n", "! line 1 range servers\n"),
+        ("cluster 1 1 10 0 64\n", "! line 1 range clients\n"),
+        ("cluster 1 1 1 0 64\n", "! line 1 range rows\n"),
+        ("cluster 1 1 1 9 64\n", "! line 1 range rows\n"),
+        ("cluster 1 1 1 2 4097\n", "! line 1 range slots\n"),
     ] {
-        let want = (3, "! line 1 unbuilt\n");
-        assert!(rt; replays(rt.alloc(), schedule, 512, &[], &[], want)?);
+        assert!(rt; replays(rt.alloc(), schedule, 512, &[], &[], (3, want))?);
     }
-    for line in [
-        "read 0",
-        "read 2",
-        "read 01",
-        "read  1",
-        "read 1 ",
-        "read 18446744073709551617",
-        "next 1",
-        "Next",
-        "",
-        "tick 2",
-        "append 1 1 a a -",
-        "append 1 1 a,a - -",
-        "append 1 1 a - set b 5",
-        "append 1 1 a - set a 05",
-        "append 1 1 a - set a 1000000001",
-        "append 1 1 a - set a 5;",
-        "append 1 1 a - put a 5",
-        "append 1 1 a, - -",
-        "append 1 1 a -",
+    Ok(())
+}
+
+// The third line, and what follows the outcome of the second one.
+#[test]
+fn lines_that_no_schedule_has(rt: HostRuntime) -> Result<(), Fail> {
+    for (line, fault) in [
+        ("", "! line 3 at 1\n"),
+        ("Next", "! line 3 at 1\n"),
+        ("next 1", "! line 3 at 5\n"),
+        ("read  1", "! line 3 at 6\n"),
+        ("read 01", "! line 3 at 7\n"),
+        ("read 1 ", "! line 3 at 7\n"),
+        ("read 18446744073709551617", "! line 3 at 25\n"),
+        ("append 1 1 a, - -", "! line 3 at 14\n"),
+        ("append 1 1 a -", "! line 3 at 15\n"),
+        ("read 0", "! line 3 range server\n"),
+        ("tick 2", "! line 3 range server\n"),
+        ("append 2 2 a - -", "! line 3 range client\n"),
+        ("crash 3", "! line 3 range node\n"),
+        ("deliver 0", "! line 3 range envelope\n"),
+        ("tear 1 1000001", "! line 3 range bytes\n"),
+        ("log 0", "! line 3 range from\n"),
+        ("dump 1 4294967296 4294967296", "! line 3 range file\n"),
     ] {
         let mut schedule = String::from_str(rt.alloc(), "cluster 1 1 1 2 64\nnext\n")?;
         schedule.push_str(line)?;
         schedule.push_str("\nnext\n")?;
-        let want = (3, "none\n! line 3 unbuilt\n");
-        assert!(rt; replays(rt.alloc(), &schedule, 512, &[], &[], want)?);
+        let mut want = String::from_str(rt.alloc(), "none\n")?;
+        want.push_str(fault)?;
+        assert!(rt; replays(rt.alloc(), &schedule, 512, &[], &[], (3, &want))?);
     }
     Ok(())
 }

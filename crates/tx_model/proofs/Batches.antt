@@ -1,5 +1,5 @@
 -- Records whose ids rise by one: their ids by place, and their parts.
-use Rattle.std.proofs.Common.{◌≡◌, ℕ, zero, suc, ◌+◌, ◌-◌, ◌<◌, ◌≤◌, List, [], ◌∷◌, ◌++◌, length, get_or, take, drop, All, inl, inr, arith, add-zero, length-append, length-drop, take-append-drop}
+use Rattle.std.proofs.Common.{◌≡◌, ℕ, zero, suc, ◌+◌, ◌-◌, ◌<◌, ◌≤◌, min, List, [], ◌∷◌, ◌++◌, length, get_or, take, drop, All, inl, inr, arith, ap, ◌∙◌, add-zero, length-append, length-take, length-drop, take-append-drop}
 use Rattle.std.proofs.Math.ListN.{get_or-append}
 use Rattle.std.proofs.Math.Seq.{get_or-append_right}
 use Rattle.std.proofs.lemmas.Bool.{cases_lt}
@@ -112,6 +112,13 @@ IsBatch-drop records n lt batch =
     IsBatch-from_RiseByOne (first_id records + n) (drop n records) (omega (arith, length-drop n records)) (omega (arith, length-drop n records)) (RiseByOne-drop (first_id records) records n (omega arith) batch.rise)
 
 -- ---- logs
+
+-- a part of a log, of one to eight records
+pub IsBatch-part : (log : List Record) (place n : ℕ) → RiseByOne 1 log → place < length log → 1 ≤ n → n ≤ 8 → IsBatch (take n (drop place log))
+IsBatch-part log place n rise within some few =
+    let len : length (take n (drop place log)) ≡ min n (length log - place) = length-take n (drop place log) ∙ ap (min n) (length-drop place log) in
+    IsBatch-from_RiseByOne (1 + place) (take n (drop place log)) (omega (arith, len)) (omega (arith, len))
+    (RiseByOne-take (1 + place) (drop place log) n (RiseByOne-drop 1 log place (omega arith) rise))
 
 -- a log of records rises from 1
 pub RiseByOne-from_IsLog : (log : List Record) → IsLog log → All IsRecord log → RiseByOne 1 log

@@ -1,4 +1,4 @@
-ghost use Rattle.std.specs.Prelude.{◌≡◌, ◌↔◌, ◌≤◌, ◌<◌, ℕ, [], All, length, IfOk};
+ghost use Rattle.std.specs.Prelude.{◌≡◌, ◌↔◌, ◌≤◌, ◌<◌, ℕ, [], All, length, take, drop, IfOk};
 
 use crate::Record;
 use std::alloc::{AllocError, Global};
@@ -37,7 +37,7 @@ impl Model for Batch {
 }
 
 impl Batch {
-    ghost use Rattle.tx_model.specs.Records.{IsRecord, IsFirstGap, IsBatch, first_id};
+    ghost use Rattle.tx_model.specs.Records.{IsRecord, IsFirstGap, IsBatch, RiseByOne, first_id};
 
     /// The batch of these records.
     pub fn new(records: Vec<Record>) -> Result<Batch, BatchFault>
@@ -70,6 +70,17 @@ impl Batch {
         ensures { result ≡ records.items }
     {
         Batch { records }
+    }
+
+    /// Copies of the records of a log after a place, eight at most: what a message takes from a log.
+    pub fn after(alloc: Global, log: &[Record], place: u64) -> Result<Batch, AllocError>
+        requires rise { RiseByOne 1 log.now }
+        requires within { place < length log.now }
+        ensures { IfOk result (λ batch. batch ≡ take 8 (drop place log.now)) }
+    {
+        let rest = &log[place as usize..];
+        let records = copies_of(alloc, &rest[..rest.len().min(MAX_BATCH)])?;
+        Ok(Batch { records })
     }
 
     /// The id of the first record.
@@ -108,10 +119,18 @@ impl Batch {
     pub fn copy(&self, alloc: Global) -> Result<Batch, AllocError>
         ensures { IfOk result (λ batch. batch ≡ self.now) }
     {
-        let mut records = Vec::with_capacity(alloc, self.records.len())?;
-        for entry in &self.records {
-            records.push(entry.copy(alloc)?)?;
-        }
+        let records = copies_of(alloc, &self.records)?;
         Ok(Batch { records })
     }
+}
+
+// Equal records.
+fn copies_of(alloc: Global, records: &[Record]) -> Result<Vec<Record>, AllocError>
+    ensures { IfOk result (λ copies. copies.items ≡ records.now) }
+{
+    let mut copies = Vec::with_capacity(alloc, records.len())?;
+    for entry in records {
+        copies.push(entry.copy(alloc)?)?;
+    }
+    Ok(copies)
 }

@@ -1,6 +1,2 @@
-pub mod Schedules
-pub mod Parties
-pub mod Views
 pub mod Ends
 pub mod Replays
-pub mod Steps

@@ -1,5 +1,6 @@
 ghost use Rattle.std.specs.Prelude.{◌≡◌};
 
+use schedule_replay::ReplayFault;
 use std::fmt;
 
 /// How a command ends. Each end has a status and a last line.
@@ -9,16 +10,8 @@ pub enum End {
     Done,
     /// The words are in no form.
     Usage,
-    /// The line of this number, counted from 1, is no built line.
-    Unbuilt(u64),
-    /// A byte follows the last event that is allowed.
-    Limit,
-    /// The source failed.
-    ReadFault,
-    /// The sink failed.
-    WriteFault,
-    /// There was no memory.
-    Memory,
+    /// A replay stopped before the end of its input.
+    Stopped(ReplayFault),
 }
 
 impl End {
@@ -30,11 +23,11 @@ impl End {
         match self {
             End::Done => 0,
             End::Usage => 2,
-            End::Unbuilt(_) => 3,
-            End::Limit => 4,
-            End::ReadFault => 10,
-            End::WriteFault => 11,
-            End::Memory => 20,
+            End::Stopped(ReplayFault::Line(_, _) | ReplayFault::Range(_, _)) => 3,
+            End::Stopped(ReplayFault::TooManyEvents) => 4,
+            End::Stopped(ReplayFault::Read) => 10,
+            End::Stopped(ReplayFault::Write) => 11,
+            End::Stopped(ReplayFault::Memory) => 20,
         }
     }
 }
@@ -47,11 +40,10 @@ impl fmt::Display for End {
 
     fn fmt<W: fmt::Write>(&self, f: &mut fmt::Formatter<W>) -> fmt::Result {
         match self {
-            End::Done | End::WriteFault | End::Memory => f.write_str(""),
+            End::Done => f.write_str(""),
             End::Usage => f.write_str("! usage\n"),
-            End::Unbuilt(line) => write!(f, "! line {line} unbuilt\n"),
-            End::Limit => f.write_str("! limit events 20000\n"),
-            End::ReadFault => f.write_str("! read\n"),
+            End::Stopped(ReplayFault::Write | ReplayFault::Memory) => f.write_str(""),
+            End::Stopped(fault) => write!(f, "! {fault}\n"),
         }
     }
 }

@@ -2,11 +2,7 @@
 #![tactic(auto)]
 
 mod end;
-mod events;
-mod input;
 mod output;
-mod parties;
 mod top;
-mod world;
 
 pub use top::run;

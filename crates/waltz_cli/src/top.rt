@@ -1,13 +1,13 @@
 ghost use Rattle.std.specs.Prelude.{◌≡◌, ◌≢◌, ◌⊎◌, ◌<◌, ◌↔◌, [], ◌∷◌, map, codes, string_bytes, IsTrue};
 ghost use Rattle.io_core.specs.Causes.{Rose};
-ghost use Rattle.waltz_cli.specs.Ends.{IsBroken};
+ghost use Rattle.waltz_cli.specs.Ends.{IsBroken, end_of};
 ghost use Rattle.world_law.specs.Laws.{EveryRunIsSound};
 ghost use Rattle.waltz_cli.specs.Replays.{PrintsReplay, ComesExactly, PrintsUsage};
 
 use crate::end::End;
-use crate::events::replay;
-use crate::output::Output;
+use crate::output::finish;
 use io_core::{Sink, Source};
+use schedule_replay::{ReplayFault, replay};
 use std::alloc::Global;
 
 // Whether the words are the one word `replay`.
@@ -17,6 +17,16 @@ fn is_replay(words: &[String]) -> bool
     match words {
         [word] => word.as_str() == "replay",
         _ => false,
+    }
+}
+
+// The end of a replay.
+fn end_of(replayed: Result<(), ReplayFault>) -> End
+    ensures { result ≡ end_of replayed }
+{
+    match replayed {
+        Ok(()) => End::Done,
+        Err(fault) => End::Stopped(fault),
     }
 }
 
@@ -42,10 +52,10 @@ pub fn run<S: Source, W: Sink>(alloc: Global, words: &[String], source: &mut S, 
     ensures read_told { S.faults source.old < S.faults source.new → (result ≡ 10) ⊎ IsBroken result }
     ensures write_told { W.faults sink.old < W.faults sink.new → result ≡ 11 }
 {
-    let mut output = Output::new(alloc);
     if !is_replay(words) {
-        return output.finish(sink, End::Usage);
+        return finish(alloc, sink, End::Usage);
     }
-    let end = replay(alloc, source, sink, &mut output);
-    output.finish(sink, end)
+    let replayed = replay(alloc, source, sink);
+    let end = end_of(replayed);
+    finish(alloc, sink, end)
 }

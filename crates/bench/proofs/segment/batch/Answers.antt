@@ -1,6 +1,6 @@
 use Rattle.std.proofs.Common.{◌≡◌, ◌+◌, ◌++◌, ◌∷◌, [], length, ◌∙◌, ap, subst, sym, arith, length-append}
 use Rattle.tx_model.specs.Records.{RiseByOne}
-use Rattle.tx_model.proofs.Batches.{RiseByOne-append}
+use Rattle.tx_model.proofs.Batches.{RiseByOne-append, RiseByOne-All}
 use Rattle.segment_store.proofs.Indexing.{none_rise, rise_one}
 use Rattle.bench.proofs.segment.batch.Goals as goal
 
@@ -17,3 +17,6 @@ loop-k-preserved c =
       ids = subst (RiseByOne c.args.first) (sym added) (RiseByOne-append c.args.first rs (r ∷ []) c.loop-k.invariant.ids (rise_one (c.args.first + length rs) r c.in_ok-example.ensures.valid next));
       count = ap length added ∙ omega (arith, length-append rs (r ∷ []), c.loop-k.invariant.count);
     }
+
+pub returns-clause-valid : goal.returns-clause-valid
+returns-clause-valid c = RiseByOne-All c.args.first c.loop-k.records.items c.loop-k.invariant.ids

@@ -1,5 +1,3 @@
-use Rattle.std.proofs.Common.{◌≡◌, true, false, ◌++◌, rules}
-use Rattle.client_core.specs.Building.{has_double}
 use Rattle.client_core.proofs.Doubles.{double_behind}
 use Rattle.client_core.proofs.refusing.has_double.Goals as goal
 

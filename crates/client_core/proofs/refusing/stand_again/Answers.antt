@@ -1,4 +1,4 @@
-use Rattle.std.proofs.Common.{◌≡◌, ◌<◌, ◌+◌, length, drop, get_or, true, false, bytes_eq, inl, inr, rules}
+use Rattle.std.proofs.Common.{◌≡◌, ◌+◌, drop, get_or, true, false, bytes_eq, inl, inr, rules}
 use Rattle.std.specs.List.{list_any}
 use Rattle.client_core.proofs.Doubles.{stands_again, stands_once}
 use Rattle.client_core.proofs.refusing.stand_again.Goals as goal

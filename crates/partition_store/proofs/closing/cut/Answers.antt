@@ -1,4 +1,4 @@
-use Rattle.std.proofs.Common.{◌≡◌, ◌++◌, ◌∷◌, ◌+◌, ◌-◌, ◌≤◌, ◌<◌, ℕ, Bool, List, [], refl, sym, ◌∙◌, ap, subst, arith, take, if◌then◌else◌}
+use Rattle.std.proofs.Common.{◌≡◌, ◌++◌, ◌∷◌, ◌+◌, ◌-◌, ◌≤◌, ℕ, Bool, List, [], sym, ◌∙◌, ap, subst, arith, take, if◌then◌else◌}
 use Rattle.std.specs.Prelude.{min}
 use Rattle.segment_store.specs.Index.{Index, count_of}
 use Rattle.partition_store.specs.Stores.{IsChain, AreCut}

@@ -1,6 +1,5 @@
-use Rattle.std.proofs.Common.{rules, ◌≡◌, ℕ, List, refl, sym, ◌∙◌, ap, subst, None, Some}
-use Rattle.disk_model.specs.History.{Files, History}
-use Rattle.partition_store.specs.Stands.{reads_of}
+use Rattle.std.proofs.Common.{rules, sym, ◌∙◌, subst}
+use Rattle.disk_model.specs.History.{History}
 use Rattle.partition_store.specs.Loading.{HoldFrames, frames_of}
 use Rattle.partition_store.proofs.Loads.{parts-held, hold-held}
 use Rattle.partition_store.proofs.loading.load_parts.Goals as goal

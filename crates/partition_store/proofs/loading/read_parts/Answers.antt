@@ -1,8 +1,8 @@
-use Rattle.std.proofs.Common.{◌≡◌, ℕ, List, refl, sym, ◌∙◌, ap, subst, None}
+use Rattle.std.proofs.Common.{List, subst}
 use Rattle.tx_model.specs.declared.meta.Meta.{Meta}
 use Rattle.disk_model.specs.History.{History}
 use Rattle.partition_store.specs.Stands.{reads_of}
-use Rattle.partition_store.specs.Loading.{AreLoaded, IsWholeLog, IsTailOf}
+use Rattle.partition_store.specs.Loading.{AreLoaded}
 use Rattle.partition_store.proofs.Loads.{read-parts}
 use Rattle.partition_store.proofs.loading.read_parts.Goals as goal
 

@@ -1,4 +1,4 @@
-use Rattle.std.proofs.Common.{◌≡◌, ℕ, refl, sym, ◌∙◌, ap, subst}
+use Rattle.std.proofs.Common.{ℕ, sym, subst}
 use Rattle.disk_model.proofs.Told.{told_by_try}
 use Rattle.proto_model.specs.Damages.{IsDamaged}
 use Rattle.partition_store.specs.Stands.{reads_of}

@@ -1,4 +1,4 @@
-use Rattle.std.proofs.Common.{rules, ◌≡◌, ◌+◌, ◌<◌, ◌++◌, ◌∷◌, [], List, ℕ, length, take, drop, get_or, refl, sym, ◌∙◌, ap, subst, arith}
+use Rattle.std.proofs.Common.{rules, ◌≡◌, ◌+◌, ◌++◌, ◌∷◌, [], List, length, take, drop, get_or, refl, sym, ◌∙◌, ap, subst, arith}
 use Rattle.std.specs.List.{flat_map}
 use Rattle.std.proofs.lemmas.List.{take_more}
 use Rattle.tx_model.specs.declared.meta.Meta.{Meta}
@@ -11,7 +11,7 @@ use Rattle.disk_model.proofs.Keeping.{kept_so_far, keeps_then}
 use Rattle.proto_model.specs.Held.{held_after, table_of}
 use Rattle.proto_model.specs.Damages.{IsDamaged}
 use Rattle.partition_store.specs.Stands.{reads_of}
-use Rattle.partition_store.specs.Loading.{IsLoadedOf, AreLoaded}
+use Rattle.partition_store.specs.Loading.{IsLoadedOf}
 use Rattle.partition_store.proofs.Places.{next-entry, frames-more, place-within}
 use Rattle.partition_store.proofs.taking.take_each.Goals as goal
 
@@ -42,7 +42,7 @@ returns-in_err-take-clause-damaged g c =
 pub overflow_add-place : goal.overflow_add-place
 overflow_add-place g c =
     let e = get_or c.args.entries.now c.loop-entry.entry-index (Promise 0) in
-    let long : c.meta_frame_len.result ≡ length (meta_frame e) = c.meta_frame_len.ensures in
+    let long : c.meta_frame_len.result ≡ length (meta_frame e) = c.meta_frame_len.ensures.len in
     let within = place-within c.args.entries.now c.loop-entry.entry-index (Promise 0) c.loop-entry-test.true in
     omega (arith, long, within, c.loop-entry.invariant.place, c.requires.short)
 
@@ -52,7 +52,7 @@ loop-entry-preserved g c =
     let es = c.args.entries.now in
     let i = c.loop-entry.entry-index in
     let more : take (i + 1) es ≡ take i es ++ get_or es i (Promise 0) ∷ [] = take_more es i (Promise 0) c.loop-entry-test.true in
-    let long : c.meta_frame_len.result ≡ length (meta_frame (get_or es i (Promise 0))) = c.meta_frame_len.ensures in
+    let long : c.meta_frame_len.result ≡ length (meta_frame (get_or es i (Promise 0))) = c.meta_frame_len.ensures.len in
     record {
       fit = c.in_ok-take.ensures.fit;
       place = omega (arith, inv.place, long, frames-more es i (Promise 0) c.loop-entry-test.true, ap (λ (l : List Meta). length (flat_map meta_frame l)) more);

@@ -1,4 +1,4 @@
-use Rattle.std.proofs.Common.{◌≡◌, ℕ, List, sym, subst, Some, Option}
+use Rattle.std.proofs.Common.{◌≡◌, sym, subst, Option}
 use Rattle.std.specs.Prelude.{IfSome}
 use Rattle.tx_model.specs.Frames.{joined}
 use Rattle.tx_model.specs.Contents.{entries_of}

@@ -1,5 +1,4 @@
-use Rattle.std.proofs.Common.{rules, ◌≡◌, ◌∷◌, [], ℕ, refl, sym, ◌∙◌, ap, subst, Some, None}
-use Rattle.disk_model.specs.File.{IsPlain, settled}
+use Rattle.std.proofs.Common.{sym, ◌∙◌}
 use Rattle.partition_store.proofs.FirmFiles.{firm-sync, plain-settled, named-none, named-one}
 use Rattle.partition_store.proofs.trimming.sync_file.Goals as goal
 

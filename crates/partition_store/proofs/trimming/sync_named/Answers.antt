@@ -1,4 +1,4 @@
-use Rattle.std.proofs.Common.{rules, ◌≡◌, ◌+◌, ◌++◌, ◌∷◌, [], List, ℕ, take, get_or, refl, sym, ◌∙◌, ap, subst, arith}
+use Rattle.std.proofs.Common.{rules, ◌≡◌, ◌+◌, ◌++◌, ◌∷◌, [], List, take, get_or, refl, sym, ◌∙◌, subst}
 use Rattle.std.proofs.lemmas.List.{take_more}
 use Rattle.tx_model.specs.declared.meta.Meta.{Meta}
 use Rattle.tx_model.specs.declared.meta.Meta.TheVariants.{Promise}
@@ -7,8 +7,7 @@ use Rattle.disk_model.proofs.Keeping.{kept_so_far, keeps_then}
 use Rattle.disk_model.proofs.Moments.{begins, and_then, each_now}
 use Rattle.proto_model.specs.Held.{EachNamed}
 use Rattle.proto_model.proofs.Folding.{named-map}
-use Rattle.partition_store.specs.Stands.{framing_of}
-use Rattle.partition_store.specs.Loading.{frames_of, AreFirm, HoldFrames}
+use Rattle.partition_store.specs.Loading.{AreFirm}
 use Rattle.partition_store.proofs.FirmFiles.{none-named, named-next, hold-same}
 use Rattle.partition_store.proofs.trimming.sync_named.Goals as goal
 

@@ -1,8 +1,6 @@
-use Rattle.std.proofs.Common.{rules, ◌≡◌, ℕ, List, refl, sym, ◌∙◌, ap, subst}
-use Rattle.disk_model.specs.History.{Files, History, EachMoment, AtEach}
-use Rattle.disk_model.proofs.Moments.{and_then, each_now}
-use Rattle.partition_store.specs.Loading.{frames_of, HoldFrames, AreFirm, HasFirmFiles}
-use Rattle.partition_store.proofs.FirmFiles.{firm-sync, hold-same}
+use Rattle.std.proofs.Common.{rules, ◌≡◌, sym, subst}
+use Rattle.disk_model.specs.History.{History}
+use Rattle.partition_store.specs.Loading.{frames_of, HoldFrames}
 use Rattle.partition_store.proofs.Trimmed.{cut-firm, cut-hold, cut-last-read, firm-last, firm-journal, firm-named, all-trimmed}
 use Rattle.partition_store.proofs.trimming.trim.Goals as goal
 

@@ -1,4 +1,4 @@
-use Rattle.std.proofs.Common.{◌≡◌, ◌≢◌, ◌-◌, ◌^◌, None, Some, refl, sym, ◌∙◌, ap, rules, arith}
+use Rattle.std.proofs.Common.{◌≡◌, ◌≢◌, ◌-◌, ◌^◌, Some, sym, ◌∙◌, ap, rules, arith}
 use Rattle.proto_model.specs.declared.refusal.BuildFault.TheVariants.{Memory}
 use Rattle.client_core.specs.Building.{build_refusal}
 use Rattle.client_core.specs.States.{state_of}

@@ -1,5 +1,4 @@
-use Rattle.std.proofs.Common.{◌≡◌, ◌-◌, ◌^◌, ◌≢◌, ◌∙◌, ap, rules, refl}
-use Rattle.client_core.specs.States.{state_of}
+use Rattle.std.proofs.Common.{rules}
 use Rattle.client_core.proofs.Told.{op_text_if, form_refused, key_refused, request_refused, not_refused}
 use Rattle.client_core.proofs.client.Client.refusal.Goals as goal
 

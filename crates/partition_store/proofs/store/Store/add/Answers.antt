@@ -1,12 +1,10 @@
-use Rattle.std.proofs.Common.{◌≡◌, ◌+◌, ◌++◌, ◌∙◌, ℕ, List, Option, length, Err, Some, None, refl, sym, ap, subst}
-use Rattle.tx_model.specs.declared.record.Record.{Record}
+use Rattle.std.proofs.Common.{◌≡◌, ◌+◌, ◌++◌, ◌∙◌, Option, Err, Some, None, sym, ap, subst}
 use Rattle.tx_model.specs.Records.{RiseByOne}
-use Rattle.disk_model.specs.History.{Files, History}
+use Rattle.disk_model.specs.History.{History}
 use Rattle.segment_store.specs.Index.{Index}
-use Rattle.proto_model.specs.Replicas.{ReplicaState}
 use Rattle.partition_store.specs.Stands.{LeavesAtEach, HasSome}
 use Rattle.partition_store.specs.Stores.{Kept, state_by, IsDurable}
-use Rattle.partition_store.proofs.Durable.{durable, sound_kept, stays}
+use Rattle.partition_store.proofs.Durable.{durable, sound_kept}
 use Rattle.partition_store.proofs.Added.{added_ids, added_fit, added_tidy, adds, added_state, added_sound}
 use Rattle.partition_store.proofs.store.Store.add.Goals as goal
 

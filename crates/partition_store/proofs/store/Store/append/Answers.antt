@@ -1,11 +1,10 @@
-use Rattle.std.proofs.Common.{◌≡◌, ◌+◌, ◌-◌, ◌++◌, ◌<◌, ◌≤◌, ◌∙◌, ℕ, List, length, drop, refl, sym, ap, subst, arith}
+use Rattle.std.proofs.Common.{◌≡◌, ◌+◌, ◌-◌, ◌∙◌, ℕ, List, drop, refl, sym, ap, subst, arith}
 use Rattle.tx_model.specs.declared.record.Record.{Record}
 use Rattle.tx_model.specs.Records.{RiseByOne, first_id}
-use Rattle.disk_model.specs.History.{History}
 use Rattle.partition_store.specs.Stands.{LeavesAtEach, HasSome}
-use Rattle.partition_store.specs.Stores.{Kept, state_by, lacking, IsSound, IsDurable}
+use Rattle.partition_store.specs.Stores.{Kept, state_by, lacking, IsSound}
 use Rattle.partition_store.proofs.Durable.{durable, stays}
-use Rattle.partition_store.proofs.Added.{lacking_rise, lacks, same_batch, has_none, new-length, old-length}
+use Rattle.partition_store.proofs.Added.{lacking_rise, lacks, same_batch, has_none}
 use Rattle.partition_store.proofs.store.Store.append.Goals as goal
 
 pub returns-then-len-known-clause-durable : goal.returns-then-len-known-clause-durable

@@ -1,9 +1,9 @@
-use Rattle.std.proofs.Common.{rules, ◌≡◌, ℕ, refl, sym, ◌∙◌, ap, subst, false, None, Some}
+use Rattle.std.proofs.Common.{refl}
 use Rattle.proto_model.proofs.DamagedFiles.{damaged-stands}
 use Rattle.partition_store.specs.Stands.{reads_of}
 use Rattle.partition_store.proofs.Durable.{durable}
 use Rattle.partition_store.proofs.FirmFiles.{firm-plain}
-use Rattle.partition_store.proofs.Loads.{loaded-fit, loaded-sound, held-same, leaves-firm}
+use Rattle.partition_store.proofs.Loads.{loaded-fit, loaded-sound, held-same, leaves-firm, held-firm, trimmed-files}
 use Rattle.disk_model.proofs.Told.{told_on}
 use Rattle.partition_store.proofs.store.Store.load.Goals as goal
 
@@ -46,3 +46,20 @@ returns-in-Err-clause-any_moment g c = λ t firm h is.
 
 pub returns-in-Err-clause-plain : goal.returns-in-Err-clause-plain
 returns-in-Err-clause-plain g c = λ t p. firm-plain (g.D.Disk.history c.args.disk).now (g.met.D.Disk.settles c.args.disk t p).0
+
+pub returns-in-Ok-clause-files : goal.returns-in-Ok-clause-files
+returns-in-Ok-clause-files g c = λ t.
+    let parts = c.in-Ok.parts in
+    trimmed-files (g.D.Disk.history c.args.disk).now (g.D.Disk.history c.load_parts.new.disk).now parts.journal parts.entries.items parts.loaded (c.in-Ok.ensures.loaded t) c.in-Ok.ensures.fit.1
+
+pub returns-in-Ok-clause-kept : goal.returns-in-Ok-clause-kept
+returns-in-Ok-clause-kept g c = λ t p h is.
+    let old = g.D.Disk.history c.args.disk in
+    let firm = firm-plain old.now (g.met.D.Disk.settles c.args.disk t p).0 in
+    held-firm g.D.Disk.plain old.now h is old (g.D.Disk.history c.load_parts.new.disk) firm (c.load_parts.ensures.firm t firm) (g.met.D.Disk.sound c.load_parts.new.disk t) (g.met.D.Disk.settles c.load_parts.new.disk t) p
+
+pub returns-in-Err-clause-kept : goal.returns-in-Err-clause-kept
+returns-in-Err-clause-kept g c = λ t p h is.
+    let old = g.D.Disk.history c.args.disk in
+    let firm = firm-plain old.now (g.met.D.Disk.settles c.args.disk t p).0 in
+    held-firm g.D.Disk.plain old.now h is old (g.D.Disk.history c.load_parts.new.disk) firm (c.load_parts.ensures.firm t firm) (g.met.D.Disk.sound c.load_parts.new.disk t) (g.met.D.Disk.settles c.load_parts.new.disk t) p

@@ -1,6 +1,6 @@
-use Rattle.std.proofs.Common.{◌≡◌, ◌+◌, ◌++◌, ◌<◌, ◌∙◌, ℕ, List, Option, Err, Some, None, inl, refl, sym, ap, subst}
+use Rattle.std.proofs.Common.{◌≡◌, ◌+◌, ◌++◌, ◌<◌, ◌∙◌, List, Option, Err, Some, None, inl, refl, sym, ap, subst}
 use Rattle.std.specs.Option.{option_to_list}
-use Rattle.disk_model.specs.History.{Files, History}
+use Rattle.disk_model.specs.History.{History}
 use Rattle.segment_store.specs.Index.{Index}
 use Rattle.proto_model.specs.Parts.{adopted_to}
 use Rattle.partition_store.specs.Stands.{LeavesAtEach, IsOldOrNew}

@@ -1,4 +1,4 @@
-use Rattle.std.proofs.Common.{◌≡◌, ◌<◌, ◌∙◌, inl, Err, sym, ap, subst}
+use Rattle.std.proofs.Common.{◌<◌, ◌∙◌, inl, Err, sym, ap, subst}
 use Rattle.disk_model.specs.History.{History}
 use Rattle.proto_model.specs.Parts.{promised_to}
 use Rattle.partition_store.specs.Stands.{LeavesAtEach, IsOldOrNew}

@@ -1,5 +1,4 @@
-use Rattle.std.proofs.Common.{◌≡◌, ◌+◌, ◌∙◌, ℕ, None, refl, sym, ap, subst}
-use Rattle.disk_model.specs.History.{Files, History}
+use Rattle.std.proofs.Common.{◌≡◌, ◌+◌, ◌∙◌, None, sym, ap, subst}
 use Rattle.proto_model.specs.Crashes.{unstaged}
 use Rattle.partition_store.specs.Stands.{LeavesAtEach}
 use Rattle.partition_store.specs.Stores.{Kept, state_by}

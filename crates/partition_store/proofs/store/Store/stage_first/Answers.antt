@@ -1,13 +1,10 @@
-use Rattle.std.proofs.Common.{◌≡◌, ◌≢◌, ◌+◌, ◌<◌, ◌∙◌, ℕ, Err, Some, None, refl, sym, ap, subst, arith}
+use Rattle.std.proofs.Common.{◌≡◌, ◌+◌, ◌∙◌, None, refl, sym, ap, subst}
 use Rattle.tx_model.specs.Records.{RiseByOne}
-use Rattle.tx_model.specs.Contents.{records_in}
-use Rattle.disk_model.specs.History.{Files, History}
-use Rattle.segment_store.specs.Index.{Index, count_of, IsIndexOfAll}
 use Rattle.proto_model.specs.Crashes.{unstaged}
 use Rattle.proto_model.specs.Parts.{staged_more}
 use Rattle.proto_model.specs.declared.replica.NodeFault.TheVariants.{Memory}
 use Rattle.partition_store.specs.Stands.{LeavesAtEach}
-use Rattle.partition_store.specs.Stores.{Kept, state_by, staged_count, IsFit, IsSound, IsDurable}
+use Rattle.partition_store.specs.Stores.{Kept, state_by, IsDurable}
 use Rattle.partition_store.proofs.Answered.{answer_kept}
 use Rattle.partition_store.proofs.Aside.{aside}
 use Rattle.partition_store.proofs.Durable.{durable, fit_disk, stays}

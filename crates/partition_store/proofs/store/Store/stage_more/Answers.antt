@@ -1,14 +1,12 @@
-use Rattle.std.proofs.Common.{◌≡◌, ◌+◌, ◌<◌, ◌∙◌, ℕ, Err, Some, None, refl, sym, ap, subst}
+use Rattle.std.proofs.Common.{◌≡◌, ◌+◌, ◌∙◌, Err, sym, ap, subst}
 use Rattle.tx_model.specs.Records.{RiseByOne}
-use Rattle.disk_model.specs.History.{Files, History}
-use Rattle.disk_model.specs.declared.unloaded.LoadFault.TheVariants as loading
-use Rattle.segment_store.specs.Index.{Index, count_of, IsIndexOfAll}
+use Rattle.disk_model.specs.History.{History}
 use Rattle.proto_model.specs.Crashes.{unstaged}
 use Rattle.proto_model.specs.Parts.{staged_more}
 use Rattle.partition_store.specs.Stands.{LeavesAtEach}
 use Rattle.partition_store.specs.Stores.{Kept, state_by, staged_count}
 use Rattle.partition_store.proofs.Aside.{aside}
-use Rattle.partition_store.proofs.Durable.{durable, stays}
+use Rattle.partition_store.proofs.Durable.{durable}
 use Rattle.partition_store.proofs.Staged.{more_ids, more_fit, more_next, more_all, more_sound, more_state, more_kept}
 use Rattle.partition_store.proofs.store.Store.stage_more.Goals as goal
 

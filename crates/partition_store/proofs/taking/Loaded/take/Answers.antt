@@ -1,10 +1,8 @@
-use Rattle.std.proofs.Common.{rules, ◌≡◌, ◌+◌, ◌-◌, ◌<◌, ◌≤◌, ◌^◌, ◌++◌, ◌∷◌, [], List, ℕ, Bool, true, false, refl, sym, ◌∙◌, ap, subst, arith, Some}
-use Rattle.disk_model.specs.LoadFaults.{IfDamaged}
+use Rattle.std.proofs.Common.{◌<◌, ◌≤◌, ◌^◌, ◌++◌, ◌∷◌, [], refl, sym, ◌∙◌, ap, subst, arith}
 use Rattle.tx_model.specs.declared.meta.Meta.{Meta}
-use Rattle.tx_model.specs.declared.meta.Meta.TheVariants.{Promise, Adopt, Low, Roll, Value}
+use Rattle.tx_model.specs.declared.meta.Meta.TheVariants.{Adopt, Roll}
 use Rattle.tx_model.specs.Spelling.{IsMeta}
-use Rattle.tx_model.specs.Contents.{entries_in}
-use Rattle.proto_model.specs.Held.{Held, held_after, is_legal, table_of}
+use Rattle.proto_model.specs.Held.{held_after, is_legal, table_of}
 use Rattle.partition_store.specs.Stands.{reads_of}
 use Rattle.partition_store.specs.Loading.{IsLoadedOf}
 use Rattle.partition_store.proofs.Legal.{damaged-illegal, illegal-promise, legal-promise, illegal-low, illegal-low-long, legal-low, legal-adopt, illegal-adopt, legal-roll, illegal-roll, taken-promise, taken-low, ok_too, damaged_too}

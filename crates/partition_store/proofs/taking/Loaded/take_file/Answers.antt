@@ -1,8 +1,8 @@
-use Rattle.std.proofs.Common.{rules, ◌≡◌, ◌+◌, ◌-◌, ◌<◌, ◌≤◌, ◌^◌, ◌++◌, ℕ, List, length, take, refl, sym, ◌∙◌, ap, subst, arith, Option, Some, None}
+use Rattle.std.proofs.Common.{◌≡◌, ◌+◌, ◌-◌, ◌<◌, ◌≤◌, ◌^◌, ◌++◌, ℕ, List, take, refl, sym, ◌∙◌, ap, subst, arith, Option, None}
 use Rattle.std.specs.Prelude.{IfNone}
 use Rattle.std.specs.Option.{option_to_list}
 use Rattle.disk_model.proofs.Told.{told_by_try}
-use Rattle.segment_store.specs.Index.{Index, count_of, IsDamagedWithin}
+use Rattle.segment_store.specs.Index.{Index, count_of}
 use Rattle.proto_model.specs.Damages.{Naming, IsDamaged}
 use Rattle.partition_store.specs.Stands.{reads_of}
 use Rattle.partition_store.specs.Stores.{IsChain, AreClosed, AreInOrder, records_by}

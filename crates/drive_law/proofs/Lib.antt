@@ -1,0 +1,5 @@
+pub mod Kept
+pub mod Quiet
+pub mod Young
+pub mod NoQuorum
+pub mod Recovered

@@ -1,0 +1,5 @@
+pub mod Whole
+pub mod Printing
+pub mod Turning
+pub mod RegisterLemmas
+pub mod Serves

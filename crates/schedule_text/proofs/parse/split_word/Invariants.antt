@@ -1,6 +1,0 @@
-use Rattle.std.proofs.Common.{take}
-use Rattle.schedule_text.specs.Words.{HasNoSpace}
-use Rattle.schedule_text.proofs.parse.split_word.Given as goal
-
-abbrev pub invariant-loop-at : goal.invariant-loop-at
-invariant-loop-at l = HasNoSpace (take l.at l.text)

@@ -1,0 +1,4 @@
+pub mod Lacking
+pub mod Forward
+pub mod Caught
+pub mod Machines

@@ -1,0 +1,4 @@
+pub mod Lacking
+pub mod Bounds
+pub mod Machines
+pub mod Posts

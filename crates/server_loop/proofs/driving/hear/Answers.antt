@@ -1,0 +1,24 @@
+use Rattle.std.proofs.Common.{◌≡◌, ◌<◌, length, refl, arith}
+use Rattle.server_loop.specs.declared.awaiting.Answer.TheVariants as answer
+use Rattle.server_loop.specs.declared.driving.Out.TheVariants.{Other, Failed}
+use Rattle.server_loop.specs.Drives.{out_after}
+use Rattle.server_loop.proofs.Moving.{heard_less, out_less, out_yes, out_no}
+use Rattle.server_loop.proofs.driving.hear.Goals as goal
+use Rattle.server_loop.proofs.driving.hear.Goals.{then-is_awaited_by, else-is_awaited_by}
+
+pub returns-after-is_awaited_by-clause-less : goal.returns-after-is_awaited_by-clause-less
+returns-after-is_awaited_by-clause-less g c =
+    let same : c.if-is_awaited_by.outs ≡ out_after (g.S.Driven.state c.args.server.now) c.args.sent.now (answer.From c.in-From.reply) = elim c.if-is_awaited_by.branch [
+      | then-is_awaited_by w ↦ out_yes (g.S.Driven.state c.args.server.now) c.args.sent.now c.in-From.reply c.last-last.result c.is_awaited_by.result _ c.last-last.ensures c.is_awaited_by.ensures w.if-is_awaited_by.true w.outs-is
+      | else-is_awaited_by w ↦ out_no (g.S.Driven.state c.args.server.now) c.args.sent.now c.in-From.reply c.last-last.result c.is_awaited_by.result _ c.last-last.ensures c.is_awaited_by.ensures w.if-is_awaited_by.false w.outs-is
+    ] in
+    heard_less _ (g.S.Driven.state c.args.server.now) c.args.node c.args.sent.now c.in-From.reply c.args.outs.now c.if-is_awaited_by.outs (g.S.Driven.lack c.args.server.now) (g.S.Driven.lack c.receive.new.self) c.receive.result
+    same c.requires.wanted c.receive.ensures.forward (g.S.Driven.bound c.receive.new.self) (omega (arith, c.told-outs, c.requires.few)) c.requires.is_in
+
+pub returns-in-Garbled-clause-less : goal.returns-in-Garbled-clause-less
+returns-in-Garbled-clause-less g c =
+    out_less c.args.outs.now c.args.node Other (g.S.Driven.lack c.args.server.now) (g.S.Driven.lack c.args.server.now) refl (g.S.Driven.bound c.args.server.now) (omega (arith, c.told-outs, c.requires.few)) c.requires.is_in
+
+pub returns-in-Failed-clause-less : goal.returns-in-Failed-clause-less
+returns-in-Failed-clause-less g c =
+    out_less c.args.outs.now c.args.node Failed (g.S.Driven.lack c.args.server.now) (g.S.Driven.lack c.args.server.now) refl (g.S.Driven.bound c.args.server.now) (omega (arith, c.told-outs, c.requires.few)) c.requires.is_in

@@ -1,0 +1,10 @@
+pub mod Requests
+pub mod Exchanges
+pub mod Registers
+pub mod Drives
+pub mod Ends
+pub mod Turns
+pub mod Serving
+pub mod Asking
+pub mod Taking
+pub mod Sessions

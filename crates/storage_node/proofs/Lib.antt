@@ -1,0 +1,5 @@
+mod Taken
+mod Stepped
+mod Fresh
+mod Torn
+mod Restarts

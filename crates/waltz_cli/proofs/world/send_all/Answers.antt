@@ -1,8 +1,0 @@
-use Rattle.std.proofs.Common.{ap, ◌∙◌, ◌++◌, ◌∷◌, []}
-use Rattle.waltz_cli.proofs.Showing.{SentSo-more}
-use Rattle.waltz_cli.proofs.world.send_all.Goals as goal
-
-pub loop-envelope-preserved : goal.loop-envelope-preserved
-loop-envelope-preserved c =
-    SentSo-more _ _ _ _ _ _ _ c.loop-envelope.invariant c.in_ok-item.ensures.sent
-    (c.in_ok-push.ensures.items ∙ ap (λ i. c.loop-envelope.items.items ++ i ∷ []) c.in_ok-item.ensures.item)

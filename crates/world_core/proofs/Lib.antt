@@ -1,0 +1,16 @@
+pub mod Rows
+pub mod Waiting
+pub mod Served
+pub mod Going
+pub mod Sent
+pub mod Delivering
+pub mod Showing
+pub mod Events
+pub mod Fits
+pub mod Starts
+pub mod Recorded
+pub mod Tallied
+pub mod Casting
+pub mod Noting
+pub mod Tallying
+pub mod Leading
