@@ -13,6 +13,7 @@ pub enum Job {
     Server(u64),
     Hashes(u64),
     Apply(u64),
+    World(u64),
 }
 
 /// The job that the words name.
@@ -44,6 +45,7 @@ fn job_of_word(word: &str, times: u64) -> Option<Job> {
         "server" => Some(Job::Server(times)),
         "hashes" => Some(Job::Hashes(times)),
         "apply" => Some(Job::Apply(times)),
+        "world" => Some(Job::World(times)),
         _ => None,
     }
 }

@@ -4,10 +4,12 @@
 //! one N times each by its own call, and `bench run N` by one. `bench store N` appends N batches of eight records to a
 //! store over a disk in memory, `bench load N` loads it after them, and `bench disk N` only writes the same frames.
 //! `bench server N` has a server of three nodes take N appends, and `bench hashes N` makes their hashes alone. `bench
-//! apply N` applies N transactions of four ops. It keeps no time itself.
+//! apply N` applies N transactions of four ops. `bench world N` reads a schedule from standard input, and steps N fresh
+//! worlds by its events. It keeps no time itself.
 #![tactic(auto)]
 
 mod applying;
+mod days;
 mod job;
 mod segment;
 mod serving;
@@ -15,10 +17,12 @@ mod storing;
 mod work;
 
 use applying::apply;
+use days::step_schedule;
 use job::{Job, job_of};
 use segment::{append_and_get, append_and_load};
 use serving::{hash_alone, serve};
 use std::alloc::Global;
+use std::io::Read;
 use std::{env, io};
 use storing::{store_and_load, store_batches, write_batches};
 use work::{Tally, decode, digest, encode};
@@ -34,16 +38,16 @@ fn main(rt: HostRuntime) -> io::Result<()> {
             "bench frames encode N | bench frames decode N | bench digest N | bench segment N | bench get N | bench run N"
         )?;
         println!(rt;
-            "bench store N | bench load N | bench disk N | bench server N | bench hashes N | bench apply N"
+            "bench store N | bench load N | bench disk N | bench server N | bench hashes N | bench apply N | bench world N"
         )?;
         return Ok(());
     };
-    let Tally { bytes, sum } = done(alloc, job)?;
+    let Tally { bytes, sum } = done(alloc, job, rt.reader())?;
     println!(rt; "{bytes} bytes, sum {sum}")?;
     Ok(())
 }
 
-fn done(alloc: Global, job: Job) -> io::Result<Tally> {
+fn done<R: Read + Drop>(alloc: Global, job: Job, input: R) -> io::Result<Tally> {
     match job {
         Job::Encode(times) => encode(alloc, times),
         Job::Decode(times) => decode(alloc, times),
@@ -57,5 +61,6 @@ fn done(alloc: Global, job: Job) -> io::Result<Tally> {
         Job::Server(count) => serve(alloc, count),
         Job::Hashes(count) => Ok(hash_alone(count)),
         Job::Apply(times) => apply(alloc, times),
+        Job::World(days) => step_schedule(alloc, input, days),
     }
 }

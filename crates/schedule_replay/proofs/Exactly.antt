@@ -288,7 +288,7 @@ prints_text whole met refused (Err Write) h0 h1 h2 written waiting text result m
 prints_text whole met refused (Err Memory) h0 h1 h2 written waiting text result m so held (inl told) finish cut = memory_told whole refused h0 h1 h2 written waiting text result so held told finish
 prints_text whole met refused (Err Memory) h0 h1 h2 written waiting text result m so held (inr p) finish cut = memory_cut whole refused h0 h1 h2 written waiting text p.1.0 result so (m p.0) held p.1.1 finish
 
-reliable : (cluster : Cluster) (events : List Event) (outcomes : List Outcome) (worlds : List WorldState) → IsRun (start cluster) events outcomes worlds → IsReliable (start cluster ∷ worlds) outcomes
+pub reliable : (cluster : Cluster) (events : List Event) (outcomes : List Outcome) (worlds : List WorldState) → IsRun (start cluster) events outcomes worlds → IsReliable (start cluster ∷ worlds) outcomes
 reliable cluster events outcomes worlds run = record {
   safe = every_run cluster events outcomes worlds run;
   reads = valid_reads cluster events outcomes worlds run;

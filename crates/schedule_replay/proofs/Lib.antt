@@ -5,3 +5,10 @@ pub mod Going
 pub mod Ending
 pub mod Exactly
 pub mod Stepped
+pub mod Made
+pub mod Counted
+pub mod Alike
+pub mod NumberedLemmas
+pub mod WritingLemmas
+pub mod DrillLemmas
+pub mod NumberedSanity

@@ -4,3 +4,9 @@ pub mod Seen
 pub mod Schedules
 pub mod Replays
 pub mod Steps
+pub mod Numbered
+pub mod Drawing
+pub mod Writing
+pub mod Drills
+pub mod Drilling
+pub mod NumberedLaws

@@ -11,8 +11,8 @@ use std::alloc::{AllocError, Global};
 use storage_node::Node;
 use world_core::World;
 
-// So many nodes over empty disks.
-fn fresh_nodes(alloc: Global, count: u8) -> Result<Vec<Node<MemDisk>>, AllocError>
+/// So many nodes over empty disks.
+pub fn fresh_nodes(alloc: Global, count: u8) -> Result<Vec<Node<MemDisk>>, AllocError>
     ensures size { IfOk result (λ nodes. length nodes.items ≡ count) }
     ensures fresh { IfOk result (λ nodes. AllByRecursion (IsFresh ⟦<Node<MemDisk> as Replica>⟧.state ⟦<Node<MemDisk> as Replica>⟧.files
         ⟦<Node<MemDisk> as Replica>⟧.is_faultless ⟦<Node<MemDisk> as Replica>⟧.shown) nodes.items) }

@@ -8,7 +8,7 @@ ghost use Rattle.schedule_replay.specs.Steps.{HappensOf, TurnOf, WritesOf, Reads
 
 use crate::ReplayFault;
 use crate::input::{Input, next_event, read_first, read_last};
-use crate::output::Output;
+use crate::output::{MAX_WAITING, Output, write_much};
 use crate::play::Play;
 use disk_model::MemDisk;
 use io_core::{Sink, Source};
@@ -19,9 +19,6 @@ use world_core::World;
 
 /// Events of a schedule at most.
 const MAX_EVENTS: u64 = 20000;
-
-/// Fewer bytes than this wait between two lines.
-const MAX_WAITING: usize = 65536;
 
 /// Whether a turn of the loop found a line.
 #[derive(Clone, Copy)]
@@ -93,19 +90,6 @@ fn write_before_reading<W: Sink>(
     ensures wants { Counts (W.wants sink.old) (W.wants sink.new) (result ≡ Err ReplayFault.Memory) }
 {
     if input.pending.has_line() {
-        return Ok(());
-    }
-    output.write(sink)
-}
-
-// Writes what waits, where that is much.
-fn write_much<W: Sink>(sink: &mut W, output: &mut Output) -> Result<(), ReplayFault>
-    ensures written { WritesOf (W.contents sink.old) (W.contents sink.new) output.old.waiting.items output.new.waiting.items result }
-    ensures few { length output.new.waiting.items < MAX_WAITING }
-    ensures faults { Counts (W.faults sink.old) (W.faults sink.new) (result ≡ Err ReplayFault.Write) }
-    ensures wants { Counts (W.wants sink.old) (W.wants sink.new) (result ≡ Err ReplayFault.Memory) }
-{
-    if output.waiting.len() < MAX_WAITING {
         return Ok(());
     }
     output.write(sink)

@@ -9,6 +9,7 @@ pub trait Play: Drop {
     ghost use Rattle.net_model.specs.declared.cluster.Cluster.{Cluster as ClusterValue};
     ghost use Rattle.world_law.specs.Worlds.{WorldState, start};
     ghost use Rattle.world_law.specs.Runs.{HasFiles};
+    ghost use Rattle.world_core.specs.Fit.{max_events};
     ghost use Rattle.schedule_replay.specs.Plays.{Leads, StandFor};
 
     /// The worlds that it may be seen as.
@@ -33,7 +34,7 @@ pub trait Play: Drop {
     /// The step of an event. Of a world that ran out of memory nothing is promised.
     fn step(&mut self, event: &Event) -> Result<Outcome, AllocError>
         requires in_range { IsInRange (cluster_of self.old) event.now }
-        requires few { steps self.old < 20000 }
+        requires few { steps self.old < max_events }
         ensures leads { IfOk result (Leads (shows self.old) (shows self.new) event.now) }
         ensures cluster { OnOk result (cluster_of self.new ≡ cluster_of self.old) }
         ensures count { OnOk result (steps self.new ≤ steps self.old + 1) };

@@ -2,4 +2,10 @@
 #![tactic(auto)]
 
 #[cfg(test)]
+mod devices;
+#[cfg(test)]
+mod numbers;
+#[cfg(test)]
 mod replays;
+#[cfg(test)]
+mod serving;

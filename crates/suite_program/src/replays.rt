@@ -1,9 +1,9 @@
 ghost use Rattle.std.specs.Prelude.{◌≤◌};
 
+use crate::devices::run_alone;
 use io_core::{MemSink, MemSource};
 use std::alloc::Global;
 use std::test::*;
-use waltz_cli::run;
 
 // Whether a replay of a schedule that is read in pieces, where calls of these numbers fail, ends with this status and
 // prints this text.
@@ -17,24 +17,18 @@ fn replays(
 ) -> Result<bool, Fail>
     requires { 1 ≤ piece }
 {
-    let mut words = Vec::new(alloc);
-    words.push(String::from_str(alloc, "replay")?)?;
     let bytes = schedule.as_bytes().to_vec(alloc)?;
     let mut source = MemSource::new(bytes, piece, read_fails.to_vec(alloc)?);
     let mut sink = MemSink::new(alloc, write_fails.to_vec(alloc)?);
-    let status = run(alloc, &words, &mut source, &mut sink);
+    let status = run_alone(alloc, &["replay"], &mut source, &mut sink)?;
     Ok(status == want.0 && sink.bytes() == want.1.as_bytes())
 }
 
 // Whether these words print the usage.
 fn are_refused(alloc: Global, words: &[&str]) -> Result<bool, Fail> {
-    let mut line = Vec::new(alloc);
-    for word in words {
-        line.push(String::from_str(alloc, word)?)?;
-    }
     let mut source = MemSource::new(Vec::new(alloc), 512, Vec::new(alloc));
     let mut sink = MemSink::new(alloc, Vec::new(alloc));
-    let status = run(alloc, &line, &mut source, &mut sink);
+    let status = run_alone(alloc, words, &mut source, &mut sink)?;
     Ok(status == 2 && sink.bytes() == b"! usage\n".as_slice())
 }
 
@@ -124,12 +118,29 @@ fn a_fault_ends_with_its_status_and_what_was_read_whole(rt: HostRuntime) -> Resu
 
 #[test]
 fn other_words_are_usage(rt: HostRuntime) -> Result<(), Fail> {
-    let none: &[&str] = &[];
-    let twice: &[&str] = &["replay", "x"];
-    let other: &[&str] = &["Replay"];
-    let empty: &[&str] = &[""];
-    for words in [none, twice, other, empty] {
-        assert!(rt; are_refused(rt.alloc(), words)?);
+    for line in [
+        "",
+        "replay x",
+        "Replay",
+        "storage",
+        "storage 0",
+        "storage 65536",
+        "storage 07001",
+        "storage -7001",
+        "storage 7001 7002",
+        "storage  7001",
+        "register x",
+        "server 1 2 0 64 3",
+        "server 1 2 2 4097 3",
+        "server 1 2 2 64",
+        "server 1 2 2 64 3 4 3",
+        "server 1 2 2 64 3 4 5 6 7 8 9 10",
+    ] {
+        let mut words = Vec::new(rt.alloc());
+        for word in line.split(' ') {
+            words.push(word)?;
+        }
+        assert!(rt; are_refused(rt.alloc(), &words)?);
     }
     Ok(())
 }

@@ -1,2 +1,6 @@
 pub mod WordsLemmas
+pub mod CommandWords
 pub mod Printing
+pub mod Statuses
+pub mod Numbers
+pub mod OneCommand

@@ -79,7 +79,7 @@ prints left_old before left_new h0 h1 h2 met refused whole result end status is 
 
 -- ---- exactly
 
-finished : (refused : Type 0) (h1 h2 : Option (List ℕ)) (end : End) (status : ℕ) → Finishes refused h1 h2 end status → (status ≡ status_of end) ⊎ IsBroken status
+pub finished : (refused : Type 0) (h1 h2 : Option (List ℕ)) (end : End) (status : ℕ) → Finishes refused h1 h2 end status → (status ≡ status_of end) ⊎ IsBroken status
 finished refused h1 h2 end status (inl p) = inl p.0
 finished refused h1 h2 end status (inr (inl p)) = inr (inr p.0)
 finished refused h1 h2 end status (inr (inr (inl is, held))) = inr (inl is)
@@ -96,7 +96,7 @@ broken_status (Err (Range l name)) status is (inl same) = absurd is
 broken_status (Err TooManyEvents) status is (inl same) = absurd is
 
 module _ (refused : Type 0) (h1 h2 : Option (List ℕ)) (result : Result Unit ReplayFault) (end : End) (status : ℕ) (is : end ≡ end_of result) (finish : Finishes refused h1 h2 end status) where
-  told : (status ≡ status_of (end_of result)) ⊎ IsBroken status
+  pub told : (status ≡ status_of (end_of result)) ⊎ IsBroken status
   told = let F : End → Type 0 = λ e. Finishes refused h1 h2 e status in finished refused h1 h2 (end_of result) status (subst F is finish)
 
   -- the status of an end that is answered

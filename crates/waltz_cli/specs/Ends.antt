@@ -44,3 +44,15 @@ abbrev pub Finishes : Type 0 → Option (List ℕ) → Option (List ℕ) → End
 Finishes refused held_old held_new end status =
     ((status ≡ status_of end) × Appends held_old held_new (last_line end))
     ⊎ (((status ≡ 20) × Appends held_old held_new []) ⊎ (IsBrokenBy refused status × AppendsPrefix held_old held_new (last_line end)))
+
+-- a status that a replay may end with
+abbrev pub IsReplayStatus : ℕ → Type 0
+IsReplayStatus status = (status ≡ 0) ⊎ ((status ≡ 3) ⊎ ((status ≡ 4) ⊎ ((status ≡ 10) ⊎ IsBroken status)))
+
+-- a status of words that are in no form
+abbrev pub IsUsageStatus : ℕ → Type 0
+IsUsageStatus status = (status ≡ 2) ⊎ IsBroken status
+
+-- a status of what only writes
+abbrev pub IsWrittenStatus : ℕ → Type 0
+IsWrittenStatus status = (status ≡ 0) ⊎ IsBroken status

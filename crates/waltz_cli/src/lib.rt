@@ -1,8 +1,10 @@
-//! The commands of the program, over a source and a sink.
+//! The commands of the program, over its devices.
 #![tactic(auto)]
 
+mod commands;
 mod end;
 mod output;
+mod replaying;
 mod top;
 
 pub use top::run;

@@ -1,4 +1,4 @@
-use Rattle.std.proofs.Common.{◌≡◌, List, length}
+use Rattle.std.proofs.Common.{◌≡◌, length}
 use Rattle.schedule_replay.specs.Seen.{IsFreshStore, Each}
 use Rattle.schedule_replay.proofs.cluster.fresh_nodes.Given as goal
 

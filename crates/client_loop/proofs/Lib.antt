@@ -1,0 +1,8 @@
+mod Whole
+mod Stopped
+mod Submitted
+mod NextLines
+mod Taking
+mod Going
+mod Finishing
+mod Exactly

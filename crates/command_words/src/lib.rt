@@ -1,0 +1,7 @@
+//! The words of a command line, and the command that they are.
+#![tactic(auto)]
+
+mod command;
+mod words;
+
+pub use command::{Command, read_command};

@@ -1,0 +1,5 @@
+use Rattle.schedule_replay.proofs.NumberedLemmas.{numbers_have_schedules}
+use Rattle.schedule_replay.proofs.laws.numbers_have_schedules.Goals as goal
+
+pub returns : goal.returns
+returns c = numbers_have_schedules

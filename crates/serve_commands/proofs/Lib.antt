@@ -1,0 +1,4 @@
+pub mod Seen
+pub mod StorageRuns
+pub mod RegisterRuns
+pub mod NotLoaded

@@ -1,0 +1,29 @@
+use Rattle.std.proofs.Common.{refl, sym, ap, Err}
+use Rattle.partition_store.specs.Stands.{held_now}
+use Rattle.serve_commands.specs.Storages.{unloaded, loaded}
+use Rattle.serve_commands.proofs.NotLoaded.{storage_unloaded}
+use Rattle.serve_commands.proofs.node_command.serve_disk.Goals as goal
+
+pub returns-in-Ok-clause-serves : goal.returns-in-Ok-clause-serves
+returns-in-Ok-clause-serves g c =
+    let s = c.serve_node.ensures.serves in (
+      s.0,
+      _,
+      loaded s.0 s.1
+          (λ t. (
+            held_now (g.D.Disk.history c.in-Ok.node.store.disk).now,
+            c.in-Ok.ensures.held t,
+            (λ u sure. rw (sym (c.in-Ok.ensures.state t)) (s.2 t u sure)),
+          )),
+      s.3,
+    )
+
+pub returns-in-Err-clause-serves : goal.returns-in-Err-clause-serves
+returns-in-Err-clause-serves g c = (
+  c.end_of.result,
+  _,
+  unloaded c.end_of.result
+      (rw c.end_of.ensures (storage_unloaded _ _ _ _ c.in-Err.unloaded.fault c.in-Err.ensures.damaged c.in-Err.ensures.any_moment (λ e. c.in-Err.ensures.memory (ap Err e))))
+      refl refl,
+  c.finish-status.ensures.prints,
+)

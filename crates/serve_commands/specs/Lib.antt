@@ -1,0 +1,4 @@
+pub mod Ends
+pub mod Storages
+pub mod Registers
+pub mod Working
