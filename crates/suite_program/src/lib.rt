@@ -9,3 +9,5 @@ mod numbers;
 mod replays;
 #[cfg(test)]
 mod serving;
+#[cfg(test)]
+mod takeover;
