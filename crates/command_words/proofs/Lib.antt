@@ -1,1 +1,4 @@
 pub mod NumberWords
+pub mod PlainWords
+pub mod ServerWords
+pub mod Matches

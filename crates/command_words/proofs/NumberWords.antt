@@ -1,5 +1,5 @@
 -- Texts of numbers, and lists of them.
-use Rattle.std.proofs.Common.{◌≡◌, ◌≢◌, ℕ, zero, suc, ◌<◌, ◌≤◌, ◌^◌, ◌-◌, ◌+◌, List, [], ◌∷◌, ◌++◌, length, take, map, get_or, ap, sym, ◌∙◌, refl, arith, decimal, subst, Contains, length-append, inl, inr}
+use Rattle.std.proofs.Common.{◌≡◌, ◌≢◌, ℕ, zero, suc, ◌<◌, ◌≤◌, ◌^◌, ◌+◌, List, [], ◌∷◌, ◌++◌, length, take, map, get_or, ap, sym, ◌∙◌, refl, arith, decimal, subst, Contains, length-append, inl, inr}
 use Rattle.std.specs.List.{AllByRecursion}
 use Rattle.std.proofs.Math.Nat.{eq-or-lt_of_le}
 use Rattle.std.proofs.lemmas.Fmt.{decimal_injective}
@@ -31,17 +31,17 @@ take_next xs i d below =
     let next : i + 1 ≡ suc i = omega arith in
     ap (λ (k : ℕ). take k xs) next ∙ take_suc xs i d below
 
-pub all_at : (P : ℕ → Type 0) (xs : List ℕ) (i : ℕ) → AllByRecursion P xs → i < length xs → P (get_or xs i 0)
-all_at P [] i all below = absurd (omega (arith, below))
-all_at P (x ∷ xs) zero all below = all.0
-all_at P (x ∷ xs) (suc i) all below = all_at P xs i all.1 (omega (arith, below))
+pub all_at : {A : Type 0} (P : A → Type 0) (xs : List A) (i : ℕ) (d : A) → AllByRecursion P xs → i < length xs → P (get_or xs i d)
+all_at P [] i d all below = absurd (omega (arith, below))
+all_at P (x ∷ xs) zero d all below = all.0
+all_at P (x ∷ xs) (suc i) d all below = all_at P xs i d all.1 (omega (arith, below))
 
 pub all_taken : (P : ℕ → Type 0) (k : ℕ) (xs : List ℕ) → AllByRecursion P xs → AllByRecursion P (take k xs)
 all_taken P zero xs all = tt
 all_taken P (suc k) [] all = tt
 all_taken P (suc k) (x ∷ xs) all = (all.0, all_taken P k xs all.1)
 
-pub all_more : (P : ℕ → Type 0) (xs : List ℕ) (x : ℕ) → AllByRecursion P xs → P x → AllByRecursion P (xs ++ x ∷ [])
+pub all_more : {A : Type 0} (P : A → Type 0) (xs : List A) (x : A) → AllByRecursion P xs → P x → AllByRecursion P (xs ++ x ∷ [])
 all_more P [] x all is = (is, tt)
 all_more P (y ∷ ys) x all is = (all.0, all_more P ys x all.1 is)
 
@@ -96,14 +96,14 @@ module _ {W : Type 0} (f : W → List ℕ) (words : List W) (at : ℕ) (w : W) (
   pub no_port : ((n : ℕ) → IsPort n → f (get_or words at w) ≢ decimal n) → (ports : List ℕ) → AreNodePorts ports → map f words ≢ map decimal ports
   no_port none ports are e =
       let t = at_text ports e in
-      none (get_or ports at 0) (all_at IsPort ports at are.each t.0) t.1
+      none (get_or ports at 0) (all_at IsPort ports at 0 are.each t.0) t.1
 
   -- one of them is a port that came before
   pub again : (port : ℕ) (items : List ℕ) → IsPort port → f (get_or words at w) ≡ decimal port → AllByRecursion IsPort items → map f (take at words) ≡ map decimal items → Contains items port →
       (ports : List ℕ) → AreNodePorts ports → map f words ≢ map decimal ports
   again port items is text each front found ports are e =
       let t = at_text ports e in
-      let here : get_or ports at 0 ≡ port = same_port _ _ (all_at IsPort ports at are.each t.0) is (sym t.1 ∙ text) in
+      let here : get_or ports at 0 ≡ port = same_port _ _ (all_at IsPort ports at 0 are.each t.0) is (sym t.1 ∙ text) in
       let before : take at ports ≡ items = same_ports _ _ (all_taken IsPort at ports are.each) each (sym (take_map decimal at ports) ∙ sym (ap (take at) e) ∙ take_map f at words ∙ front) in
       are.different at t.0 (rw (before, here) found)
 

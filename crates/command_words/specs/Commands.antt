@@ -1,5 +1,5 @@
 -- The words of a command line, and the command that they are.
-use Rattle.std.specs.Prelude.{◌≡◌, ◌≢◌, ℕ, ◌≤◌, ◌<◌, ◌^◌, ◌-◌, List, [], ◌∷◌, length, take, map, codes, decimal, slice_index, vec_len, Contains, ⊤}
+use Rattle.std.specs.Prelude.{◌≡◌, ℕ, ◌≤◌, ◌<◌, ◌^◌, ◌-◌, List, [], ◌∷◌, length, take, map, codes, decimal, slice_index, vec_len, Contains, ⊤}
 use Rattle.std.specs.List.{AllByRecursion}
 use Rattle.server_host.specs.declared.serve.Setting.{Setting}
 use Rattle.command_words.specs.declared.command.Command.{Command}

@@ -1,4 +1,4 @@
-ghost use Rattle.std.specs.Prelude.{◌≡◌, ◌≢◌, [], ◌∷◌, IfOk, MatchOption, map, string_bytes};
+ghost use Rattle.std.specs.Prelude.{◌≡◌, ◌≢◌, [], ◌∷◌, IfOk, OnErr, MatchOption, map, codes, string_bytes};
 ghost use Rattle.command_words.specs.Commands.{AreWordsOf, AreNoWords};
 
 use crate::words::{numbered_client, numbered_schedule, only_port, read_setting};
@@ -35,22 +35,23 @@ fn command_named(
     ensures read { IfOk result (λ command. MatchOption command
         (AreNoWords (name.now ∷ map string_bytes numbers.now))
         (λ c. AreWordsOf (name.now ∷ map string_bytes numbers.now) c)) }
+    ensures memory { OnErr result (name.now ≢ codes "replay") }
 {
     match name {
         "replay" => Ok(replay(numbers)),
-        "generate" => match numbered_schedule(numbers) {
+        "generate" => match numbered_schedule(alloc, numbers)? {
             Some((number, events)) => Ok(Some(Command::Generate(number, events))),
             None => Ok(None),
         },
-        "drill" => match numbered_schedule(numbers) {
+        "drill" => match numbered_schedule(alloc, numbers)? {
             Some((number, events)) => Ok(Some(Command::Drill(number, events))),
             None => Ok(None),
         },
-        "storage" => match only_port(numbers) {
+        "storage" => match only_port(alloc, numbers)? {
             Some(port) => Ok(Some(Command::Storage(port))),
             None => Ok(None),
         },
-        "register" => match only_port(numbers) {
+        "register" => match only_port(alloc, numbers)? {
             Some(port) => Ok(Some(Command::Register(port))),
             None => Ok(None),
         },
@@ -58,11 +59,11 @@ fn command_named(
             Some(setting) => Ok(Some(Command::Server(setting))),
             None => Ok(None),
         },
-        "client" => match numbered_client(numbers) {
+        "client" => match numbered_client(alloc, numbers)? {
             Some((id, server)) => Ok(Some(Command::Client(id, server))),
             None => Ok(None),
         },
-        "stop" => match only_port(numbers) {
+        "stop" => match only_port(alloc, numbers)? {
             Some(port) => Ok(Some(Command::Stop(port))),
             None => Ok(None),
         },
@@ -81,11 +82,12 @@ fn replay(numbers: &[String]) -> Option<Command>
     None
 }
 
-/// The command that the words are. There is none where they are in no form.
+/// The command that the words are. There is none where they are in no form. The one word `replay` needs no memory.
 pub fn read_command(alloc: Global, words: &[String]) -> Result<Option<Command>, AllocError>
     ensures read { IfOk result (λ command. MatchOption command
         (AreNoWords (map string_bytes words.now))
         (λ c. AreWordsOf (map string_bytes words.now) c)) }
+    ensures memory { OnErr result (map string_bytes words.now ≢ codes "replay" ∷ []) }
 {
     let Some((name, numbers)) = words.split_first() else {
         return Ok(None);

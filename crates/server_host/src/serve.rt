@@ -1,4 +1,4 @@
-ghost use Rattle.std.specs.Prelude.{◌≡◌, ◌≤◌, ◌++◌, ℕ, List, vec_len};
+ghost use Rattle.std.specs.Prelude.{◌≡◌, ◌≤◌, ◌<◌, ◌++◌, ℕ, List, vec_len};
 ghost use Rattle.io_core.specs.Causes.{Rose};
 ghost use Rattle.proto_model.specs.Servers.{ServerState};
 ghost use Rattle.server_loop.specs.declared.end.End.{End as EndValue};
@@ -49,6 +49,7 @@ pub fn serve_server<L: Link, P: Port, W: Sink>(
 
     // A fault is told only where it was counted.
     ensures write { result ≡ 11 → Rose (W.faults sink.old) (W.faults sink.new) }
+    ensures told { W.faults sink.old < W.faults sink.new → result ≡ 11 }
     ensures peer { result ≡ 13 → Rose (P.faults port.old) (P.faults port.new) }
     ensures register { result ≡ 14 → Rose (L.faults link.old) (L.faults link.new) }
 {

@@ -66,14 +66,14 @@ fn outcome_in(number: u64, m: FromRegister) -> Result<Cas, RegisterFault>
 }
 
 // The message of the register that a reply is.
-fn message_of(reply: Reply) -> Result<FromRegister, RegisterFault>
-    requires { IsValidReply reply }
-    ensures value { result ≡ message_of reply }
+fn message_of(reply: &Reply) -> Result<FromRegister, RegisterFault>
+    requires { IsValidReply reply.now }
+    ensures value { result ≡ message_of reply.now }
     ensures valid { IfOk result IsValidFromRegister }
     ensures memory { result ≢ Err RegisterFault.Memory }
 {
     match reply {
-        Reply::Message(Message::FromRegister(m)) => Ok(m),
+        Reply::Message(Message::FromRegister(m)) => Ok(*m),
         Reply::Message(Message::ToNode(_)) => Err(RegisterFault::Garbled),
         Reply::Message(Message::FromNode(_)) => Err(RegisterFault::Garbled),
         Reply::Message(Message::ToServer(_)) => Err(RegisterFault::Garbled),
@@ -103,7 +103,7 @@ fn ask<L: Link>(
     ensures cause { HasRegisterCause (L.faults link.old) (L.faults link.new) result }
 {
     match exchange(alloc, link, port, &Message::ToRegister(message), room) {
-        Ok(reply) => message_of(reply),
+        Ok(reply) => message_of(&reply),
         Err(_) => Err(RegisterFault::Memory),
     }
 }

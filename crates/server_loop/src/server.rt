@@ -1,4 +1,4 @@
-ghost use Rattle.std.specs.Prelude.{◌≡◌, ◌≤◌, ◌⊎◌, ◌++◌, ℕ, List, IfOk, IfErr, OnOk, Err, length};
+ghost use Rattle.std.specs.Prelude.{◌≡◌, ◌≤◌, ◌<◌, ◌⊎◌, ◌++◌, ℕ, List, IfOk, IfErr, OnOk, Err, length};
 ghost use Rattle.std.specs.Io.KnownBytes.{Appends};
 ghost use Rattle.std.specs.String.{string_bytes};
 ghost use Rattle.io_core.specs.Causes.{Rose};
@@ -24,6 +24,7 @@ fn say<W: Sink>(sink: &mut W, text: &str) -> Result<(), End>
     ensures part { IfErr result (SaysPart (W.contents sink.old) (W.contents sink.new) text.now) }
     ensures later { W.faults sink.old ≤ W.faults sink.new }
     ensures fault { result ≡ Err End.WriteFault → Rose (W.faults sink.old) (W.faults sink.new) }
+    ensures told { W.faults sink.old < W.faults sink.new → result ≡ Err End.WriteFault }
 {
     match write_all(sink, text.as_bytes()) {
         Ok(()) => Ok(()),
@@ -43,6 +44,7 @@ fn say_session<W: Sink>(
     ensures part { IfErr result (SaysPart (W.contents sink.old) (W.contents sink.new) (session_line session recovered)) }
     ensures later { W.faults sink.old ≤ W.faults sink.new }
     ensures fault { result ≡ Err End.WriteFault → Rose (W.faults sink.old) (W.faults sink.new) }
+    ensures told { W.faults sink.old < W.faults sink.new → result ≡ Err End.WriteFault }
 {
     match format!(in alloc; "session {session} recovered {recovered}\n") {
         Ok(text) => say(sink, &text),
@@ -56,6 +58,7 @@ fn say_listening<W: Sink>(alloc: Global, sink: &mut W, number: u16) -> Result<()
     ensures part { IfErr result (SaysPart (W.contents sink.old) (W.contents sink.new) (listening_line number)) }
     ensures later { W.faults sink.old ≤ W.faults sink.new }
     ensures fault { result ≡ Err End.WriteFault → Rose (W.faults sink.old) (W.faults sink.new) }
+    ensures told { W.faults sink.old < W.faults sink.new → result ≡ Err End.WriteFault }
 {
     match format!(in alloc; "listening {number}\n") {
         Ok(text) => say(sink, &text),
@@ -80,6 +83,7 @@ fn announce<P: Port, W: Sink>(
     ensures peer { result ≡ Err End.Peer → Rose (P.faults port.old) (P.faults port.new) }
     ensures sink_later { W.faults sink.old ≤ W.faults sink.new }
     ensures write { result ≡ Err End.WriteFault → Rose (W.faults sink.old) (W.faults sink.new) }
+    ensures told { W.faults sink.old < W.faults sink.new → result ≡ Err End.WriteFault }
 {
     match say_session(alloc, sink, session, recovered) {
         Ok(()) => {}
@@ -110,6 +114,7 @@ fn run<H: Host, L: Link, P: Port, W: Sink>(
     ensures peer { result ≡ End.Peer → Rose (P.faults port.old) (P.faults port.new) }
     ensures sink_later { W.faults sink.old ≤ W.faults sink.new }
     ensures write { result ≡ End.WriteFault → Rose (W.faults sink.old) (W.faults sink.new) }
+    ensures told { W.faults sink.old < W.faults sink.new → result ≡ End.WriteFault }
 {
     let Ok(mut room) = zeros(alloc, MAX_FRAME) else {
         return End::Memory;
@@ -124,12 +129,18 @@ fn run<H: Host, L: Link, P: Port, W: Sink>(
     }
 }
 
-// Prints the last line of an end, and gives the status.
+// Prints the last line of an end, and gives the status. Where there is no such line, the sink is left alone.
 fn finish<W: Sink>(alloc: Global, sink: &mut W, end: &End) -> u8
     ensures prints { Prints (W.contents sink.old) (W.contents sink.new) (last_line end.now) (status_of end.now) result }
+    ensures broken { (end.now ≡ End.WriteFault) ⊎ (end.now ≡ End.Memory) → (result ≡ status_of end.now) × (sink.new ≡ sink.old) }
     ensures later { W.faults sink.old ≤ W.faults sink.new }
     ensures fault { result ≡ 11 → (status_of end.now ≡ 11) ⊎ Rose (W.faults sink.old) (W.faults sink.new) }
+    ensures told { W.faults sink.old < W.faults sink.new → result ≡ 11 }
 {
+    match end {
+        End::WriteFault | End::Memory => return end.status(),
+        _ => {}
+    }
     let Ok(text) = last_line(alloc, end) else {
         return 20;
     };
@@ -160,6 +171,7 @@ pub fn host_session<H: Host, L: Link, P: Port, W: Sink>(
 
     // A fault is told only where it was counted.
     ensures write { result ≡ 11 → Rose (W.faults sink.old) (W.faults sink.new) }
+    ensures told { W.faults sink.old < W.faults sink.new → result ≡ 11 }
     ensures peer { result ≡ 13 → Rose (P.faults port.old) (P.faults port.new) }
     ensures register { result ≡ 14 → Rose (L.faults link.old) (L.faults link.new) }
 {

@@ -10,6 +10,8 @@ mod locks;
 #[cfg(test)]
 mod recovery;
 #[cfg(test)]
+mod sent;
+#[cfg(test)]
 mod server;
 #[cfg(test)]
 mod window;

@@ -1,6 +1,7 @@
 ghost use Rattle.std.specs.Prelude.{◌≡◌, ◌≤◌, IfOk};
 
-use proto_model::{Phase, Report, ToNode};
+use crate::sent::{ADOPT, FETCH, LOW, NONE, OPEN, STAGE, Sent, brief};
+use proto_model::{Phase, Report};
 use session_recovery::{Nodes, Recovery};
 use std::alloc::{AllocError, Global};
 use std::test::Fail;
@@ -54,29 +55,6 @@ fn the_later_session_is_chosen_then_the_longer_log_then_the_lesser_node(rt: Host
 
 // ---- a whole recovery
 
-// A message without its records: of a batch the first id, and how many records it has.
-#[derive(Clone, Copy, PartialEq, Eq)]
-enum Sent {
-    Nothing,
-    Open(u64),
-    Fetch(u64, u64, u8),
-    Stage(u64, u64, u8),
-    Adopt(u64, u64),
-    Low(u64, u64),
-    Another,
-}
-
-fn brief(m: &ToNode) -> Sent {
-    match m {
-        ToNode::Open(session) => Sent::Open(*session),
-        ToNode::Fetch(session, from, max) => Sent::Fetch(*session, *from, *max),
-        ToNode::Stage(session, batch) => Sent::Stage(*session, batch.first(), batch.len()),
-        ToNode::Adopt(session, length) => Sent::Adopt(*session, *length),
-        ToNode::Low(session, low) => Sent::Low(*session, *low),
-        ToNode::Append(_, _) => Sent::Another,
-    }
-}
-
 // The next message for a node of three.
 fn next(recovery: &Recovery, node: u8) -> Result<Sent, AllocError>
     requires nodes { recovery.now.known.nodes ≡ 3 }
@@ -85,7 +63,7 @@ fn next(recovery: &Recovery, node: u8) -> Result<Sent, AllocError>
 {
     match recovery.next_for(node)? {
         Some(m) => Ok(brief(&m)),
-        None => Ok(Sent::Nothing),
+        None => Ok(NONE),
     }
 }
 
@@ -100,23 +78,8 @@ enum Heard {
     Adopted(u8),
 }
 
-// What a node told, and then the next messages for the nodes 1 to 3, and whether the recovery is done.
-#[derive(Clone, Copy)]
-struct Turn {
-    node: u8,
-    heard: Heard,
-    next: [Sent; 3],
-    done: bool,
-}
-
-fn after(node: u8, heard: Heard, next: [Sent; 3], done: bool) -> Turn {
-    Turn {
-        node,
-        heard,
-        next,
-        done,
-    }
-}
+// A node and what it told, and then the next messages for the nodes 1 to 3, and whether the recovery is done.
+type Turn = (u8, Heard, [Sent; 3], bool);
 
 // The batch of one record.
 fn batch_of(alloc: Global, id: u8) -> Result<Batch, Fail> {
@@ -156,9 +119,10 @@ fn goes_as_told(alloc: Global, recovery: &mut Recovery, turn: &Turn) -> Result<b
     requires { recovery.old.known.nodes ≡ 3 }
     ensures { recovery.new.known.nodes ≡ 3 }
 {
-    hear(alloc, recovery, turn.node, turn.heard)?;
+    let (node, heard, wanted, done) = *turn;
+    hear(alloc, recovery, node, heard)?;
     let sent = [next(recovery, 1)?, next(recovery, 2)?, next(recovery, 3)?];
-    Ok(sent == turn.next && recovery.done() == turn.done)
+    Ok(sent == wanted && recovery.done() == done)
 }
 
 // The first turn of session 7 that does not go as told.
@@ -172,55 +136,55 @@ fn first_other(alloc: Global, turns: &[Turn]) -> Result<Option<usize>, Fail> {
     Ok(None)
 }
 
-const NONE: Sent = Sent::Nothing;
+const OPEN_7: Sent = [OPEN, 7, 0, 0];
 
-const OPEN: Sent = Sent::Open(7);
+const ADOPT_2: Sent = [ADOPT, 7, 2, 0];
 
-const ADOPT: Sent = Sent::Adopt(7, 2);
+const LOW_2: Sent = [LOW, 7, 2, 0];
 
-const LOW: Sent = Sent::Low(7, 2);
+const FIRST: Sent = [FETCH, 7, 1, 2];
+
+const SECOND: Sent = [FETCH, 7, 2, 1];
+
+const WHOLE: Sent = [STAGE, 7, 1, 2];
+
+const LAST: Sent = [STAGE, 7, 2, 1];
 
 // Node 2 is chosen with a log of two records, of which it knows that the first is committed. Node 3 comes late.
+const CHOSEN: [Turn; 17] = [
+    (1, Heard::Report(2, 0, 3), [NONE, OPEN_7, OPEN_7], false),
+    (2, Heard::Report(3, 1, 2), [NONE, FIRST, OPEN_7], false),
+    (1, Heard::Fetched(1), [NONE, FIRST, OPEN_7], false),
+    (2, Heard::Fetched(2), [NONE, FIRST, OPEN_7], false),
+    (2, Heard::Fetched(1), [NONE, SECOND, OPEN_7], false),
+    (2, Heard::Fetched(2), [WHOLE, LAST, OPEN_7], false),
+    (1, Heard::Progress(2), [ADOPT_2, LAST, OPEN_7], false),
+    (1, Heard::Progress(1), [LAST, LAST, OPEN_7], false),
+    (3, Heard::Progress(2), [LAST, LAST, OPEN_7], false),
+    (1, Heard::Progress(2), [ADOPT_2, LAST, OPEN_7], false),
+    (1, Heard::Adopted(1), [ADOPT_2, LAST, OPEN_7], false),
+    (1, Heard::Adopted(2), [NONE, LAST, OPEN_7], false),
+    (1, Heard::Progress(0), [NONE, LAST, OPEN_7], false),
+    (3, Heard::Report(0, 0, 0), [NONE, LAST, WHOLE], false),
+    (2, Heard::Progress(2), [NONE, ADOPT_2, WHOLE], false),
+    (2, Heard::Adopted(2), [LOW_2, LOW_2, WHOLE], true),
+    (3, Heard::Adopted(2), [LOW_2; 3], true),
+];
+
+const ADOPT_0: Sent = [ADOPT, 7, 0, 0];
+
+// Nothing is fetched of an empty log, which is adopted at once.
+const EMPTY: [Turn; 4] = [
+    (3, Heard::Report(0, 0, 0), [OPEN_7, OPEN_7, NONE], false),
+    (2, Heard::Report(0, 0, 0), [OPEN_7, ADOPT_0, ADOPT_0], false),
+    (3, Heard::Adopted(0), [OPEN_7, ADOPT_0, NONE], false),
+    (2, Heard::Adopted(0), [OPEN_7, NONE, NONE], true),
+];
+
 #[test]
 fn the_chosen_log_is_fetched_staged_and_adopted(rt: HostRuntime) -> Result<(), Fail> {
-    let first = Sent::Fetch(7, 1, 2);
-    let second = Sent::Fetch(7, 2, 1);
-    let whole = Sent::Stage(7, 1, 2);
-    let last = Sent::Stage(7, 2, 1);
-    let turns = [
-        after(1, Heard::Report(2, 0, 3), [NONE, OPEN, OPEN], false),
-        after(2, Heard::Report(3, 1, 2), [NONE, first, OPEN], false),
-        after(1, Heard::Fetched(1), [NONE, first, OPEN], false),
-        after(2, Heard::Fetched(2), [NONE, first, OPEN], false),
-        after(2, Heard::Fetched(1), [NONE, second, OPEN], false),
-        after(2, Heard::Fetched(2), [whole, last, OPEN], false),
-        after(1, Heard::Progress(2), [ADOPT, last, OPEN], false),
-        after(1, Heard::Progress(1), [last, last, OPEN], false),
-        after(3, Heard::Progress(2), [last, last, OPEN], false),
-        after(1, Heard::Progress(2), [ADOPT, last, OPEN], false),
-        after(1, Heard::Adopted(1), [ADOPT, last, OPEN], false),
-        after(1, Heard::Adopted(2), [NONE, last, OPEN], false),
-        after(1, Heard::Progress(0), [NONE, last, OPEN], false),
-        after(3, Heard::Report(0, 0, 0), [NONE, last, whole], false),
-        after(2, Heard::Progress(2), [NONE, ADOPT, whole], false),
-        after(2, Heard::Adopted(2), [LOW, LOW, whole], true),
-        after(3, Heard::Adopted(2), [LOW; 3], true),
-    ];
-    assert!(rt; first_other(rt.alloc(), &turns)? == None);
-    Ok(())
-}
-
-// Nothing is fetched of an empty log.
-#[test]
-fn an_empty_log_is_adopted_at_once(rt: HostRuntime) -> Result<(), Fail> {
-    let adopt = Sent::Adopt(7, 0);
-    let turns = [
-        after(3, Heard::Report(0, 0, 0), [OPEN, OPEN, NONE], false),
-        after(2, Heard::Report(0, 0, 0), [OPEN, adopt, adopt], false),
-        after(3, Heard::Adopted(0), [OPEN, adopt, NONE], false),
-        after(2, Heard::Adopted(0), [OPEN, NONE, NONE], true),
-    ];
-    assert!(rt; first_other(rt.alloc(), &turns)? == None);
+    assert!(rt; first_other(rt.alloc(), &CHOSEN)? == None);
+    assert!(rt; first_other(rt.alloc(), &EMPTY)? == None);
     Ok(())
 }
 

@@ -1,8 +1,9 @@
 ghost use Rattle.std.specs.Prelude.{◌≡◌, ◌≤◌, ◌<◌, IfOk};
 ghost use Rattle.proto_model.specs.Validity.{IsValidFromNode};
 
+use crate::sent::{ADOPT, APPEND, FETCH, LOW, NONE, OPEN, STAGE, Sent, brief};
 use partition_server::{AppendFault, ReadFault, Server, append_uncounted};
-use proto_model::{FromNode, FromServer, Phase, ReadRefusal, ToNode, ToServer};
+use proto_model::{FromNode, FromServer, Phase, ReadRefusal, ToServer};
 use std::alloc::{AllocError, Global};
 use std::marker::Brand;
 use std::sync::ledger::{Blank, Ledger};
@@ -10,29 +11,6 @@ use std::test::Fail;
 use tx_model::{Batch, Lock, Record, Steps, Tx};
 
 // ---- what is sent and seen
-
-// A message without its records: of a batch the first id, and how many records it has.
-#[derive(Clone, Copy, PartialEq, Eq)]
-enum Sent {
-    Nothing,
-    Open(u64),
-    Fetch(u64, u64, u8),
-    Stage(u64, u64, u8),
-    Adopt(u64, u64),
-    Append(u64, u64, u8),
-    Low(u64, u64),
-}
-
-fn brief(m: &ToNode) -> Sent {
-    match m {
-        ToNode::Open(session) => Sent::Open(*session),
-        ToNode::Fetch(session, from, max) => Sent::Fetch(*session, *from, *max),
-        ToNode::Stage(session, batch) => Sent::Stage(*session, batch.first(), batch.len()),
-        ToNode::Adopt(session, length) => Sent::Adopt(*session, *length),
-        ToNode::Append(session, batch) => Sent::Append(*session, batch.first(), batch.len()),
-        ToNode::Low(session, low) => Sent::Low(*session, *low),
-    }
-}
 
 // A reply of a node. The records are one of the id 1.
 #[derive(Clone, Copy)]
@@ -77,25 +55,8 @@ fn message(alloc: Global, session: u8, reply: Reply) -> Result<FromNode, Fail>
     })
 }
 
-// A reply of a node in a session, and then the server's phase and its next messages for the nodes 1 to 3.
-#[derive(Clone, Copy)]
-struct Turn {
-    node: u8,
-    session: u8,
-    reply: Reply,
-    phase: Phase,
-    next: [Sent; 3],
-}
-
-fn heard(node: u8, session: u8, reply: Reply, phase: Phase, next: [Sent; 3]) -> Turn {
-    Turn {
-        node,
-        session,
-        reply,
-        phase,
-        next,
-    }
-}
+// A node, a session and the node's reply in it, and then the server's phase and its next messages for the nodes 1 to 3.
+type Turn = (u8, u8, Reply, Phase, [Sent; 3]);
 
 // A server of three nodes in a session.
 fn opening(alloc: Global, session: u8) -> Result<Server, Fail>
@@ -114,7 +75,7 @@ fn next(server: &Server, node: u8) -> Result<Sent, AllocError>
 {
     match server.next_for(node)? {
         Some(m) => Ok(brief(&m)),
-        None => Ok(Sent::Nothing),
+        None => Ok(NONE),
     }
 }
 
@@ -138,9 +99,10 @@ fn goes_as_told(alloc: Global, server: &mut Server, turn: &Turn) -> Result<bool,
     requires { server.old.known.nodes ≡ 3 }
     ensures { server.new.known.nodes ≡ 3 }
 {
-    let count = answered(alloc, server, turn.node, turn.session, turn.reply)?;
+    let (node, session, reply, phase, wanted) = *turn;
+    let count = answered(alloc, server, node, session, reply)?;
     let sent = [next(server, 1)?, next(server, 2)?, next(server, 3)?];
-    Ok(count == 0 && server.phase() == turn.phase && sent == turn.next)
+    Ok(count == 0 && server.phase() == phase && sent == wanted)
 }
 
 // The first turn that does not go as told.
@@ -163,88 +125,135 @@ fn marks(server: &Server) -> (u64, u64, u64) {
 
 // ---- sessions
 
-const NONE: Sent = Sent::Nothing;
+// What comes of these turns of a server in a session: the first that does not go as told, its marks, what becomes of an
+// append that locks `z`, and what is shown from the id 1 on.
+fn after(
+    alloc: Global,
+    session: u8,
+    turns: &[Turn],
+) -> Result<(Option<usize>, (u64, u64, u64), Taking, Reads), Fail> {
+    let mut server = opening(alloc, session)?;
+    let other = first_other(alloc, &mut server, turns)?;
+    let marks = marks(&server);
+    let taking = append(alloc, &mut server, b"z", 0)?;
+    Ok((other, marks, taking, all_reads(&server, 1)))
+}
+
+const OPEN_2: Sent = [OPEN, 2, 0, 0];
+
+const FETCH_1: Sent = [FETCH, 2, 1, 1];
+
+const STAGE_1: Sent = [STAGE, 2, 1, 1];
+
+const ADOPT_1: Sent = [ADOPT, 2, 1, 0];
+
+const LOW_1: Sent = [LOW, 2, 1, 0];
+
+const REPAIRING: Phase = Phase::Repairing;
+
+const KEEPING: [Turn; 9] = [
+    (1, 1, Reply::Acked(1), Phase::Opening, [OPEN_2; 3]),
+    (
+        1,
+        2,
+        Reply::Opened(1, 0, 1),
+        Phase::Opening,
+        [NONE, OPEN_2, OPEN_2],
+    ),
+    (
+        2,
+        2,
+        Reply::Opened(1, 0, 0),
+        Phase::Fetching,
+        [FETCH_1, NONE, OPEN_2],
+    ),
+    (1, 2, Reply::Records, REPAIRING, [STAGE_1, STAGE_1, OPEN_2]),
+    (
+        1,
+        2,
+        Reply::Staged(1),
+        REPAIRING,
+        [ADOPT_1, STAGE_1, OPEN_2],
+    ),
+    (
+        2,
+        2,
+        Reply::Staged(1),
+        REPAIRING,
+        [ADOPT_1, ADOPT_1, OPEN_2],
+    ),
+    (1, 2, Reply::Adopted(1), REPAIRING, [NONE, ADOPT_1, OPEN_2]),
+    (
+        2,
+        2,
+        Reply::Adopted(1),
+        Phase::Running,
+        [LOW_1, LOW_1, OPEN_2],
+    ),
+    (
+        2,
+        2,
+        Reply::LowSet(1),
+        Phase::Running,
+        [LOW_1, NONE, OPEN_2],
+    ),
+];
 
 #[test]
 fn takeover_keeps_a_heard_record(rt: HostRuntime) -> Result<(), Fail> {
-    let mut server = opening(rt.alloc(), 2)?;
-    let open = Sent::Open(2);
-    let stage = Sent::Stage(2, 1, 1);
-    let adopt = Sent::Adopt(2, 1);
-    let low = Sent::Low(2, 1);
-    let fetch = Sent::Fetch(2, 1, 1);
-    let repairing = Phase::Repairing;
-    let turns = [
-        heard(1, 1, Reply::Acked(1), Phase::Opening, [open; 3]),
-        heard(
-            1,
-            2,
-            Reply::Opened(1, 0, 1),
-            Phase::Opening,
-            [NONE, open, open],
-        ),
-        heard(
-            2,
-            2,
-            Reply::Opened(1, 0, 0),
-            Phase::Fetching,
-            [fetch, NONE, open],
-        ),
-        heard(1, 2, Reply::Records, repairing, [stage, stage, open]),
-        heard(1, 2, Reply::Staged(1), repairing, [adopt, stage, open]),
-        heard(2, 2, Reply::Staged(1), repairing, [adopt, adopt, open]),
-        heard(1, 2, Reply::Adopted(1), repairing, [NONE, adopt, open]),
-        heard(2, 2, Reply::Adopted(1), Phase::Running, [low, low, open]),
-        heard(2, 2, Reply::LowSet(1), Phase::Running, [low, NONE, open]),
-    ];
-    assert!(rt; first_other(rt.alloc(), &mut server, &turns)? == None);
-    let locked = append(rt.alloc(), &mut server, b"z", 0)?;
-    assert!(rt; (marks(&server), locked) == ((2, 1, 1), Taking::Locked(1)));
+    let shown = (Ok((1, 1)), Ok(1), Ok(1));
+    let want = (None, (2, 1, 1), Taking::Locked(1), shown);
+    assert!(rt; after(rt.alloc(), 2, &KEEPING)? == want);
     Ok(())
 }
+
+const ADOPT_0: Sent = [ADOPT, 2, 0, 0];
+
+const DROPPING: [Turn; 5] = [
+    (
+        2,
+        2,
+        Reply::Opened(1, 0, 0),
+        Phase::Opening,
+        [OPEN_2, NONE, OPEN_2],
+    ),
+    (
+        3,
+        2,
+        Reply::Opened(1, 0, 0),
+        REPAIRING,
+        [OPEN_2, ADOPT_0, ADOPT_0],
+    ),
+    (1, 2, Reply::Opened(1, 0, 1), REPAIRING, [ADOPT_0; 3]),
+    (2, 2, Reply::Adopted(0), REPAIRING, [ADOPT_0, NONE, ADOPT_0]),
+    (
+        3,
+        2,
+        Reply::Adopted(0),
+        Phase::Running,
+        [ADOPT_0, NONE, NONE],
+    ),
+];
 
 #[test]
 fn takeover_drops_an_unheard_record(rt: HostRuntime) -> Result<(), Fail> {
-    let mut server = opening(rt.alloc(), 2)?;
-    let open = Sent::Open(2);
-    let adopt = Sent::Adopt(2, 0);
-    let repairing = Phase::Repairing;
-    let turns = [
-        heard(
-            2,
-            2,
-            Reply::Opened(1, 0, 0),
-            Phase::Opening,
-            [open, NONE, open],
-        ),
-        heard(
-            3,
-            2,
-            Reply::Opened(1, 0, 0),
-            repairing,
-            [open, adopt, adopt],
-        ),
-        heard(1, 2, Reply::Opened(1, 0, 1), repairing, [adopt; 3]),
-        heard(2, 2, Reply::Adopted(0), repairing, [adopt, NONE, adopt]),
-        heard(3, 2, Reply::Adopted(0), Phase::Running, [adopt, NONE, NONE]),
-    ];
-    assert!(rt; first_other(rt.alloc(), &mut server, &turns)? == None);
+    let shown = (Ok((0, 0)), Err(ReadFault::NotYet(0)), Ok(0));
+    let want = (None, (2, 0, 0), Taking::Taken(1), shown);
+    assert!(rt; after(rt.alloc(), 2, &DROPPING)? == want);
     Ok(())
 }
 
+const STALE: [Turn; 3] = [
+    (1, 1, Reply::Stale(2), Phase::Closed(2), [NONE; 3]),
+    (2, 1, Reply::Stale(3), Phase::Closed(2), [NONE; 3]),
+    (1, 1, Reply::Opened(0, 0, 0), Phase::Closed(2), [NONE; 3]),
+];
+
 #[test]
 fn a_stale_server_is_closed(rt: HostRuntime) -> Result<(), Fail> {
-    let mut server = opening(rt.alloc(), 1)?;
-    let closed = Phase::Closed(2);
-    let turns = [
-        heard(1, 1, Reply::Stale(2), closed, [NONE; 3]),
-        heard(2, 1, Reply::Stale(3), closed, [NONE; 3]),
-        heard(1, 1, Reply::Opened(0, 0, 0), closed, [NONE; 3]),
-    ];
-    assert!(rt; first_other(rt.alloc(), &mut server, &turns)? == None);
-    assert!(rt; append(rt.alloc(), &mut server, b"a", 0)? == Taking::Closed(2));
-    let reads = (Ok((0, 0)), Err(ReadFault::NotYet(0)), Ok(0));
-    assert!(rt; all_reads(&server, 1) == reads);
+    let shown = (Ok((0, 0)), Err(ReadFault::NotYet(0)), Ok(0));
+    let want = (None, (1, 0, 0), Taking::Closed(2), shown);
+    assert!(rt; after(rt.alloc(), 1, &STALE)? == want);
     Ok(())
 }
 
@@ -263,13 +272,13 @@ enum Taking {
     Memory,
 }
 
-fn what_became(answer: Result<u64, AppendFault>) -> Taking {
+fn what_became(answer: &Result<u64, AppendFault>) -> Taking {
     match answer {
-        Ok(id) => Taking::Taken(id),
-        Err(AppendFault::NotRunning(phase)) => Taking::NotRunning(phase),
-        Err(AppendFault::Closed(session)) => Taking::Closed(session),
-        Err(AppendFault::MarkAhead(last)) => Taking::MarkAhead(last),
-        Err(AppendFault::Locked(_, mark)) => Taking::Locked(mark),
+        Ok(id) => Taking::Taken(*id),
+        Err(AppendFault::NotRunning(phase)) => Taking::NotRunning(*phase),
+        Err(AppendFault::Closed(session)) => Taking::Closed(*session),
+        Err(AppendFault::MarkAhead(last)) => Taking::MarkAhead(*last),
+        Err(AppendFault::Locked(_, mark)) => Taking::Locked(*mark),
         Err(AppendFault::WindowFull) => Taking::WindowFull,
         Err(AppendFault::LogFull) => Taking::LogFull,
         Err(AppendFault::Memory) => Taking::Memory,
@@ -289,7 +298,7 @@ fn append(alloc: Global, server: &mut Server, name: &[u8], mark: u64) -> Result<
     ensures { server.new.known.nodes ≡ server.old.known.nodes }
 {
     let tx = transaction(alloc, name, mark)?;
-    Ok(what_became(append_uncounted(server, tx)))
+    Ok(what_became(&append_uncounted(server, tx)))
 }
 
 fn append_with<L: Ledger>(server: &mut Server, tx: Tx, blank: Blank) -> Taking
@@ -298,7 +307,7 @@ fn append_with<L: Ledger>(server: &mut Server, tx: Tx, blank: Blank) -> Taking
     requires some { 0 < blank.parts }
 {
     let mut steps = Steps::<L>::new(blank);
-    what_became(server.append(tx, &mut steps))
+    what_became(&server.append(tx, &mut steps))
 }
 
 // The same with its steps counted.
@@ -389,53 +398,71 @@ fn committed_by_each(server: &mut Server) -> Result<[Option<(u64, u64, u64)>; 3]
     ])
 }
 
+// What is sent of a record, whose answer each acknowledgement makes due, and the marks then.
+type Committing = ((usize, Sent), [Option<(u64, u64, u64)>; 3], (u64, u64, u64));
+
+fn committing(alloc: Global) -> Result<Committing, Fail> {
+    let mut server = having_one_record(alloc)?;
+    let sent = sent_at_once(&server)?;
+    let due = committed_by_each(&mut server)?;
+    Ok((sent, due, marks(&server)))
+}
+
 #[test]
 fn a_record_is_committed_once_a_quorum_has_it(rt: HostRuntime) -> Result<(), Fail> {
-    let mut server = having_one_record(rt.alloc())?;
-    assert!(rt; sent_at_once(&server)? == (3, Sent::Append(1, 1, 1)));
-    assert!(rt; committed_by_each(&mut server)? == [None, Some((7, 1, 1)), None]);
-    assert!(rt; marks(&server) == (1, 1, 1));
+    let sent = (3, [APPEND, 1, 1, 1]);
+    let due = [None, Some((7, 1, 1)), None];
+    assert!(rt; committing(rt.alloc())? == (sent, due, (1, 1, 1)));
     Ok(())
 }
 
-// A running server with one committed record.
-fn having_one_committed(alloc: Global) -> Result<Server, Fail> {
+// What is shown from an id on of one record, that is committed or is not.
+fn shown(alloc: Global, committed: bool, id: u64) -> Result<Reads, Fail> {
     let mut server = having_one_record(alloc)?;
-    let _ = committed_by_each(&mut server)?;
-    Ok(server)
+    if committed {
+        committed_by_each(&mut server)?;
+    }
+    Ok(all_reads(&server, id))
 }
 
 #[test]
 fn what_is_committed_is_shown(rt: HostRuntime) -> Result<(), Fail> {
-    let server = having_one_record(rt.alloc())?;
-    let none = (Ok((0, 0)), Err(ReadFault::NotYet(0)), Ok(0));
-    assert!(rt; all_reads(&server, 1) == none);
-    let server = having_one_committed(rt.alloc())?;
-    for (id, feed, entry) in [
-        (0, Err(ReadFault::BadId), Err(ReadFault::BadId)),
-        (1, Ok((1, 1)), Ok(1)),
-        (2, Ok((0, 1)), Err(ReadFault::NotYet(1))),
+    for (committed, id, want) in [
+        (false, 1, (Ok((0, 0)), Err(ReadFault::NotYet(0)), Ok(0))),
+        (
+            true,
+            0,
+            (Err(ReadFault::BadId), Err(ReadFault::BadId), Ok(1)),
+        ),
+        (true, 1, (Ok((1, 1)), Ok(1), Ok(1))),
+        (true, 2, (Ok((0, 1)), Err(ReadFault::NotYet(1)), Ok(1))),
     ] {
-        assert!(rt; all_reads(&server, id) == (feed, entry, Ok(1)), "at {id}");
+        assert!(rt; shown(rt.alloc(), committed, id)? == want, "at {id}");
     }
     Ok(())
 }
 
+// What becomes of appends with these marks.
+fn taken_with(alloc: Global, marks: [u64; 5]) -> Result<[Taking; 5], Fail> {
+    let mut server = running(alloc)?;
+    let mut found = [Taking::Memory; 5];
+    for at in 0..5 {
+        found[at] = append_counted(alloc, &mut server, b"a", marks[at])?;
+    }
+    Ok(found)
+}
+
 #[test]
 fn a_mark_is_not_ahead(rt: HostRuntime) -> Result<(), Fail> {
-    let mut server = running(rt.alloc())?;
-    for (mark, want) in [
-        (0, Taking::Taken(1)),
-        (2, Taking::MarkAhead(1)),
-        (18_446_744_073_709_551_615, Taking::MarkAhead(1)),
-        (0, Taking::Locked(1)),
-        (1, Taking::Taken(2)),
-    ] {
-        assert!(rt;
-            append_counted(rt.alloc(), &mut server, b"a", mark)? == want,
-            "at {mark}"
-        );
-    }
+    let ahead = Taking::MarkAhead(1);
+    let want = [
+        Taking::Taken(1),
+        ahead,
+        ahead,
+        Taking::Locked(1),
+        Taking::Taken(2),
+    ];
+    assert!(rt; taken_with(rt.alloc(), [0, 2, u64::MAX, 0, 1])? == want);
     Ok(())
 }
 
@@ -452,47 +479,43 @@ fn fill(alloc: Global, server: &mut Server) -> Result<Option<u64>, Fail>
     Ok(None)
 }
 
-// What becomes of one append more, how many requests each of two acknowledgements of the first record answers, and what
-// becomes of another append.
-fn at_the_full_window(
-    alloc: Global,
-    server: &mut Server,
-) -> Result<(Taking, [usize; 2], Taking), Fail>
-    requires { server.old.known.nodes ≡ 3 }
-{
-    let full = append(alloc, server, b"", 0)?;
+// The first id that is not given, what becomes of one append more, how many requests each of two acknowledgements of the
+// first record answers, and what becomes of another append.
+fn at_the_full_window(alloc: Global) -> Result<(Option<u64>, Taking, [usize; 2], Taking), Fail> {
+    let mut server = running(alloc)?;
+    let other = fill(alloc, &mut server)?;
+    let full = append(alloc, &mut server, b"", 0)?;
     let counts = [
-        answered(alloc, server, 1, 1, Reply::Acked(1))?,
-        answered(alloc, server, 2, 1, Reply::Acked(1))?,
+        answered(alloc, &mut server, 1, 1, Reply::Acked(1))?,
+        answered(alloc, &mut server, 2, 1, Reply::Acked(1))?,
     ];
-    Ok((full, counts, append(alloc, server, b"", 0)?))
+    Ok((other, full, counts, append(alloc, &mut server, b"", 0)?))
 }
 
 #[test]
 fn a_full_window_takes_no_more(rt: HostRuntime) -> Result<(), Fail> {
-    let mut server = running(rt.alloc())?;
-    assert!(rt; fill(rt.alloc(), &mut server)? == None);
-    let want = (Taking::WindowFull, [0, 1], Taking::Taken(1025));
-    assert!(rt; at_the_full_window(rt.alloc(), &mut server)? == want);
+    let want = (None, Taking::WindowFull, [0, 1], Taking::Taken(1025));
+    assert!(rt; at_the_full_window(rt.alloc())? == want);
     Ok(())
 }
 
-// Whether a request to flush is refused since the server is idle.
-fn is_unserved(server: &mut Server) -> Result<bool, AllocError> {
-    let answer = server.serve(&ToServer::Flush)?;
-    Ok(matches!(
-        answer,
-        Some(FromServer::Unserved(ReadRefusal::NotRunning(Phase::Idle)))
-    ))
+// What becomes of an append to an idle server, what is shown, and whether a request to flush is refused since it is idle.
+fn idle_answers(alloc: Global) -> Result<(Taking, Reads, bool), Fail> {
+    let mut server = Server::new(alloc, 3, 2, 64)?;
+    let taking = append(alloc, &mut server, b"a", 0)?;
+    let reads = all_reads(&server, 2);
+    let unserved = match server.serve(&ToServer::Flush)? {
+        Some(FromServer::Unserved(reason)) => reason == ReadRefusal::NotRunning(Phase::Idle),
+        _ => false,
+    };
+    Ok((taking, reads, unserved))
 }
 
 #[test]
 fn an_idle_server_refuses_all(rt: HostRuntime) -> Result<(), Fail> {
-    let mut server = Server::new(rt.alloc(), 3, 2, 64)?;
-    let idle = Taking::NotRunning(Phase::Idle);
-    assert!(rt; append(rt.alloc(), &mut server, b"a", 0)? == idle);
     let fault = ReadFault::NotRunning(Phase::Idle);
-    assert!(rt; all_reads(&server, 2) == (Err(fault), Err(fault), Err(fault)));
-    assert!(rt; is_unserved(&mut server)?);
+    let reads = (Err(fault), Err(fault), Err(fault));
+    let want = (Taking::NotRunning(Phase::Idle), reads, true);
+    assert!(rt; idle_answers(rt.alloc())? == want);
     Ok(())
 }

@@ -1,4 +1,3 @@
-pub mod WordsLemmas
 pub mod CommandWords
 pub mod Printing
 pub mod Statuses

@@ -1,12 +1,7 @@
 -- What the commands of the program have in common.
 use Rattle.std.specs.Prelude.{⊤}
 use Rattle.command_words.specs.declared.command.Command.{Command}
-use Rattle.command_words.specs.declared.command.Command.TheVariants.{Server, Client, Stop}
-
--- the one that serves a partition
-abbrev pub IsServer : Command → Type 0
-IsServer (Server setting) = ⊤
-IsServer _ = ⊥
+use Rattle.command_words.specs.declared.command.Command.TheVariants.{Client, Stop}
 
 -- those that ask who serves
 abbrev pub IsAsking : Command → Type 0

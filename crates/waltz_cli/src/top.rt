@@ -1,4 +1,4 @@
-ghost use Rattle.std.specs.Prelude.{◌≡◌, ◌⊎◌, ◌<◌, ◌↔◌, ℕ, [], ◌∷◌, map, codes, string_bytes, IsTrue};
+ghost use Rattle.std.specs.Prelude.{◌≡◌, ◌⊎◌, ◌<◌, ℕ, [], ◌∷◌, map, codes, string_bytes};
 ghost use Rattle.io_core.specs.Causes.{Rose};
 ghost use Rattle.server_host.specs.Posts.{post_of};
 ghost use Rattle.server_host.specs.declared.serve.Setting.{Setting as SettingValue};
@@ -11,24 +11,17 @@ ghost use Rattle.waltz_cli.specs.Partitions.{ServesPartition};
 ghost use Rattle.waltz_cli.specs.Ends.{IsBroken};
 ghost use Rattle.world_law.specs.Laws.{EveryRunIsSound};
 ghost use Rattle.waltz_cli.specs.Replays.{PrintsReplay, ComesExactly, PrintsUsage};
-ghost use Rattle.waltz_cli.specs.Served.{IsServer, IsAsking};
+ghost use Rattle.waltz_cli.specs.Served.{IsAsking};
 ghost use Rattle.waltz_cli.specs.Numbered.{PrintsNumbered, PrintsDrilled};
 
-use crate::commands::command;
-use crate::replaying::replay_schedule;
+use crate::commands::{serve, usage};
+use command_words::read_command;
 use disk_model::Disk;
 use io_core::{Link, Port, Sink, Source};
 use std::alloc::Global;
 
-// Whether the words are the one word `replay`.
-fn is_replay(words: &[String]) -> bool
-    ensures { IsTrue result ↔ (map string_bytes words.now ≡ codes "replay" ∷ []) }
-{
-    match words {
-        [word] => word.as_str() == "replay",
-        _ => false,
-    }
-}
+/// The status where there is no memory for the words.
+const NO_MEMORY: u8 = 20;
 
 /// The program: it takes the words of its command line without its own name, does what they say, and gives its status.
 ///
@@ -118,11 +111,11 @@ pub fn run<S: Source, W: Sink, D: Disk, P: Port, L: Link>(
         result ≡ 13 → Rose (L.faults link.old) (L.faults link.new) }
     ensures no_register { result ≡ 14 → Rose (L.faults link.old) (L.faults link.new) }
     ensures read_told { S.faults source.old < S.faults source.new → (result ≡ 10) ⊎ IsBroken result }
-    ensures write_told { HaveNo IsServer (map string_bytes words.now) →
-        W.faults sink.old < W.faults sink.new → result ≡ 11 }
+    ensures write_told { W.faults sink.old < W.faults sink.new → result ≡ 11 }
 {
-    if is_replay(words) {
-        return replay_schedule(alloc, source, sink);
+    match read_command(alloc, words) {
+        Ok(Some(command)) => serve(alloc, &command, source, sink, disk, port, link),
+        Ok(None) => usage(alloc, sink),
+        Err(_) => NO_MEMORY,
     }
-    command(alloc, words, source, sink, disk, port, link)
 }

@@ -1,9 +1,12 @@
-use Rattle.std.proofs.Common.{◌≡◌, ◌∙◌, rules, arith, refl, sym, ap, string_bytes, decimal, map, ◌∷◌, [], length-append}
+use Rattle.std.proofs.Common.{◌∙◌, rules, arith, refl, sym, ap, Bor, List, ℕ, map, ◌∷◌, [], length-append}
 use Rattle.std.proofs.lemmas.Bool.Decides.{nat_tests}
 use Rattle.std.proofs.lemmas.List.{take_all}
 use Rattle.command_words.specs.Commands.{IsPort}
 use Rattle.command_words.proofs.NumberWords.{no_port, again, one_more, all_more, different_more}
 use Rattle.command_words.proofs.words.node_ports.Goals as goal
+
+abbrev text : Bor (List ℕ) → List ℕ
+text s = s.now
 
 pub loop-at-init : goal.loop-at-init
 loop-at-init c = record {
@@ -15,23 +18,23 @@ loop-at-init c = record {
 
 pub returns-in_default : goal.returns-in_default
 returns-in_default c = record {
-  ports = no_port string_bytes c.args.words.now c.loop-at.at c.index-words-at.result (grind (arith, nat_tests))
-      (λ n is e. c.in_default.ensures.none n is (c.as_str.ensures.value ∙ ap string_bytes c.index-words-at.is ∙ e));
+  ports = no_port text c.args.words.now c.loop-at.at _ (grind (arith, nat_tests))
+      c.in_default.ensures.none;
 }
 
 pub returns-then-contains : goal.returns-then-contains
 returns-then-contains c = record {
-  ports = again string_bytes c.args.words.now c.loop-at.at c.index-words-at.result (grind (arith, nat_tests))
+  ports = again text c.args.words.now c.loop-at.at _ (grind (arith, nat_tests))
       c.in-Some.port c.loop-at.ports.items c.in-Some.ensures.some.0
-      (ap string_bytes (sym c.index-words-at.is) ∙ sym c.as_str.ensures.value ∙ c.in-Some.ensures.some.1)
+      c.in-Some.ensures.some.1
       c.loop-at.invariant.each c.loop-at.invariant.texts (search rules);
 }
 
 pub loop-at-preserved : goal.loop-at-preserved
 loop-at-preserved c = record {
-  texts = rw c.in_ok-push.ensures.items (one_more string_bytes c.args.words.now c.loop-at.at c.index-words-at.result (grind (arith, nat_tests))
+  texts = rw c.in_ok-push.ensures.items (one_more text c.args.words.now c.loop-at.at _ (grind (arith, nat_tests))
       c.in-Some.port c.loop-at.ports.items
-      (ap string_bytes (sym c.index-words-at.is) ∙ sym c.as_str.ensures.value ∙ c.in-Some.ensures.some.1)
+      c.in-Some.ensures.some.1
       c.loop-at.invariant.texts);
   count = rw c.in_ok-push.ensures.items (omega (arith, length-append c.loop-at.ports.items (c.in-Some.port ∷ []), c.loop-at.invariant.count));
   each = rw c.in_ok-push.ensures.items (all_more IsPort c.loop-at.ports.items c.in-Some.port c.loop-at.invariant.each c.in-Some.ensures.some.0);
@@ -46,6 +49,6 @@ returns c = record {
       each = c.loop-at.invariant.each;
       different = c.loop-at.invariant.different;
     },
-    ap (map string_bytes) (sym (take_all c.loop-at.at c.args.words.now (grind (arith, nat_tests)))) ∙ c.loop-at.invariant.texts,
+    ap (map text) (sym (take_all c.loop-at.at c.args.words.now (grind (arith, nat_tests)))) ∙ c.loop-at.invariant.texts,
   );
 }
