@@ -1,5 +1,6 @@
 -- The lines decide how a script ends, where nothing else came first.
 use Rattle.std.proofs.Common.{◌≡◌, ◌⊎◌, inl, inr, ℕ, ◌<◌, ◌≤◌, List, [], ◌∷◌, ◌++◌, length, arith, refl, sym, ◌∙◌, subst, Option, Some, None}
+use Rattle.std.proofs.lemmas.List.{append_cancel_left}
 use Rattle.io_core.specs.Links.{Exchange}
 use Rattle.schedule_text.specs.declared.lines.script.ScriptLine.{ScriptLine}
 use Rattle.schedule_text.specs.Spellings.{SpellsScript}
@@ -72,12 +73,8 @@ same_place a Peer lines rest d e p q = absurd e
 same_place a Garbled lines rest d e p q = absurd e
 same_place a Memory lines rest d e p q = absurd e
 
-cancel : (xs r s : List (List ℕ)) → xs ++ r ≡ xs ++ s → r ≡ s
-cancel [] r s e = e
-cancel (x ∷ xs) r s e = cancel xs r s cc
-
 rest_same : (xs ys r s : List (List ℕ)) → xs ≡ ys → xs ++ r ≡ ys ++ s → r ≡ s
-rest_same xs ys r s e both = let P : List (List ℕ) → Type 0 = λ z. xs ++ r ≡ z ++ s in cancel xs r s (subst P (sym e) both)
+rest_same xs ys r s e both = let P : List (List ℕ) → Type 0 = λ z. xs ++ r ≡ z ++ s in append_cancel_left xs r s (subst P (sym e) both)
 
 -- the lines decide the status
 same_status : (a b : End) (l1 : List (List ℕ)) (s1 : List ScriptLine) (r1 l2 : List (List ℕ)) (s2 : List ScriptLine) (r2 : List (List ℕ)) → IsDecided a → IsDecided b → AreScripts l1 s1 → AreScripts l2 s2 → l1 ++ r1 ≡ l2 ++ r2 → HasReason a l1 r1 → HasReason b l2 r2 → status_of a ≡ status_of b

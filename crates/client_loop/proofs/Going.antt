@@ -2,21 +2,25 @@
 use Rattle.std.proofs.Common.{◌≡◌, ℕ, ◌+◌, ◌<◌, ◌≤◌, List, [], ◌∷◌, ◌++◌, length, arith, refl, sym, ◌∙◌, ap, subst, length-append, Option, None, Some, Result, Ok, Err, inl, inr}
 use Rattle.std.specs.Prelude.{OnOk, IfErr}
 use Rattle.std.specs.Io.KnownBytes.{Appends, prepend_known}
+use Rattle.std.proofs.KnownBytes.{prepend_known-nil}
 use Rattle.io_core.specs.Bytes.{AppendsPrefix}
-use Rattle.io_core.specs.Lines.{lines_of, TakesPart}
+use Rattle.io_core.specs.Lines.{lines_of}
 use Rattle.io_core.specs.Links.{Exchange}
 use Rattle.io_core.proofs.Known.{Appends-nothing, Appends-more, AppendsPrefix-more}
 use Rattle.client_core.specs.Clients.{ClientState, fresh_client}
 use Rattle.schedule_text.specs.declared.lines.script.ScriptLine.{ScriptLine}
 use Rattle.schedule_text.specs.Spellings.{SpellsScript}
+use Rattle.schedule_text.specs.Places.{IsBadScript}
+use Rattle.schedule_text.specs.Taken.{ReadsOn, TakesLines}
+use Rattle.schedule_text.proofs.Taken.{TakesLines-none, TakesLines-more, some_line, some_first, all_read, part_left, keeps_part, room-some, room-none, where_some}
 use Rattle.client_loop.specs.declared.end.End.{End}
 use Rattle.client_loop.specs.declared.end.End.TheVariants.{Done, Bad, Limit, ReadFault, WriteFault, Peer, Garbled, Memory}
 use Rattle.client_loop.specs.Asks.{IsAskEnd}
 use Rattle.client_loop.specs.Ends.{IsTold}
 use Rattle.client_loop.specs.Scripts.{Seat, seat, DoesLine, FailsLine}
-use Rattle.client_loop.specs.Reading.{AreScripts, TakesScript, IsBadNext, IsAfter, IsFollowed, Leaves, NeedsRead, ReadsWhere, ReadsOn, LastOf, TakesLines, NeedsLastRead}
+use Rattle.client_loop.specs.Reading.{AreScripts, TakesScript, IsAfter, IsFollowed, Leaves, NeedsRead, ReadsWhere, LastOf, NeedsLastRead}
 use Rattle.client_loop.specs.Runs.{AreDone, none, one_more, AllDone, LastFails, Goes, Turns, Fails, DoesOf, WritesOf, Going, Reaches}
-use Rattle.client_loop.proofs.Taking.{TakesLines-none, TakesLines-more, prepend-nothing, needs_more, room-some, room-none, reads, known_last, done_reason, fault_reason, keeps_part, decided_leaves, memory_leaves, memory_after, some_line}
+use Rattle.client_loop.proofs.Leaving.{needs_more, known_last, reads, asked, memory_after}
 
 -- ---- before the first line
 
@@ -34,7 +38,7 @@ going_start tells id port past a before held pending client empty is = record {
   text = [];
   spelled = tt;
   done = λ told. fresh_done id port client past is;
-  read = rw (empty, prepend-nothing a) (TakesLines-none a);
+  read = rw (empty, prepend_known-nil a) (TakesLines-none a);
   last = first_last a before;
   held = Appends-nothing held;
   count = refl;
@@ -83,7 +87,7 @@ takes_more left before s0 s1 tells id port past a h0 h1 pending0 pending1 at n s
         earlier = going.scripts;
         spelled = AreScripts-push going.lines going.scripts takes.line script going.spelled takes.spelled;
         read = TakesLines-more a (prepend_known pending0 (left s0)) (prepend_known pending1 (left s1)) going.lines takes.line going.read takes.read;
-        last = needs_more left before s0 s1 a (prepend_known pending1 (left s1)) pending0 takes.line going.lines going.read going.last takes.read (subst O (sym (room-some going.lines n going.count few)) on);
+        last = needs_more left before s0 s1 a (prepend_known pending1 (left s1)) pending0 takes.line going.lines going.read going.last takes.read (subst O (sym (room-some 20000 going.lines n going.count few)) on);
         count = simp length-append (omega (arith, going.count));
       },
       refl,
@@ -146,30 +150,27 @@ breaks left before s0 s1 tells id port past past1 a h0 h1 refused pending0 pendi
       told = told going.text going.held;
     }
 
-bad_some : (rest : List ℕ) (at : ℕ) → IsBadNext (lines_of rest) at → ¬ (rest ≡ [])
-bad_some rest at bad is = rw is at bad
-
 -- reading a line or doing it ends the script
 pub take_ends : {S : Type 0} (left before : S → Option (List ℕ)) (s0 s1 : S) (tells : Type 0) (id port : ℕ) (past past1 : List Exchange) (a h0 h1 : Option (List ℕ)) (refused : Type 0) (pending0 pending1 line : List ℕ) (client : ClientState) (at : Seat) (n number : ℕ) (end : End) → n < 20000 → number ≡ n + 1 → Going tells id port past a (prepend_known pending0 (left s0)) (before s0) (left s0) h0 h1 at n → DoesOf tells id port (prepend_known pending0 (left s0)) (prepend_known pending1 (left s1)) at (seat client past1) line number (Err end) → (end ≡ ReadFault → pending1 ≡ []) → ReadsOn left before s0 s1 512 pending0 → Reaches tells id port past past1 a (before s1) (left s1) h0 h1 refused end
 take_ends left before s0 s1 tells id port past past1 a h0 h1 refused pending0 pending1 line client at n number Done few is going does empty on =
     stays tells id port past past1 a _ (before s0) (left s0) (before s1) (left s1) h0 h1 refused client at n Done going does.1 (omega (arith, few)) tt
-    (reads a (prepend_known pending0 (left s0)) (before s1) (left s1) Done going.lines going.read (λ bytes rest known known' taken. done_reason (prepend_known pending0 (left s0)) (before s1) (left s1) pending1 bytes rest going.lines known' does.0))
+    (reads a (prepend_known pending0 (left s0)) (before s1) (left s1) Done going.lines going.read (λ bytes rest known known' taken. all_read (prepend_known pending0 (left s0)) (left s1) pending1 rest known' does.0))
     (λ all. all) (λ held. held)
 take_ends left before s0 s1 tells id port past past1 a h0 h1 refused pending0 pending1 line client at n number (Bad bad place) few is going does empty on =
     let O : ℕ → Type 0 = λ room. ReadsOn left before s0 s1 room pending0 in
     stays tells id port past past1 a _ (before s0) (left s0) (before s1) (left s1) h0 h1 refused client at n (Bad bad place) going does.2 (omega (arith, few)) (omega (arith, going.count, does.1, is), omega (arith, going.count, few))
     (reads a (prepend_known pending0 (left s0)) (before s1) (left s1) (Bad bad place) going.lines going.read (λ bytes rest known known' taken.
     let wrong = rw known' at does.0 in
-    (wrong, decided_leaves left before s0 s1 a going.lines bytes pending0 rest known known' taken going.last (subst O (sym (room-some going.lines n going.count few)) on) (bad_some rest place wrong))))
+    (wrong, where_some rest (left s1) (asked left before s0 s1 a going.lines bytes pending0 rest known known' taken going.last (subst O (sym (room-some 20000 going.lines n going.count few)) on)) (some_first (λ x. IsBadScript x place) rest wrong))))
     (λ all. all) (λ held. held)
 take_ends left before s0 s1 tells id port past past1 a h0 h1 refused pending0 pending1 line client at n number ReadFault few is going does empty on =
     stays tells id port past past1 a _ (before s0) (left s0) (before s1) (left s1) h0 h1 refused client at n ReadFault going does.1 (omega (arith, few)) tt
-    (reads a (prepend_known pending0 (left s0)) (before s1) (left s1) ReadFault going.lines going.read (λ bytes rest known known' taken. fault_reason (prepend_known pending0 (left s0)) (before s1) (left s1) 512 pending1 bytes rest going.lines (room-some going.lines n going.count few) known' taken (empty refl) does.0))
+    (reads a (prepend_known pending0 (left s0)) (before s1) (left s1) ReadFault going.lines going.read (λ bytes rest known known' taken. (tt, part_left 20000 512 (prepend_known pending0 (left s0)) (left s1) pending1 bytes rest going.lines (room-some 20000 going.lines n going.count few) known' taken (empty refl) does.0)))
     (λ all. all) (λ held. held)
 take_ends left before s0 s1 tells id port past past1 a h0 h1 refused pending0 pending1 line client at n number Memory few is going (inl same) empty on =
     let O : ℕ → Type 0 = λ room. ReadsOn left before s0 s1 room pending0 in
     stays tells id port past past1 a _ (before s0) (left s0) (before s1) (left s1) h0 h1 refused client at n Memory going same (omega (arith, few)) tt
-    (reads a (prepend_known pending0 (left s0)) (before s1) (left s1) Memory going.lines going.read (λ bytes rest known known' taken. (tt, memory_leaves left before s0 s1 a going.lines bytes pending0 rest known known' taken going.last (subst O (sym (room-some going.lines n going.count few)) on))))
+    (reads a (prepend_known pending0 (left s0)) (before s1) (left s1) Memory going.lines going.read (λ bytes rest known known' taken. (tt, elim (asked left before s0 s1 a going.lines bytes pending0 rest known known' taken going.last (subst O (sym (room-some 20000 going.lines n going.count few)) on)) [ inl further ↦ inl further | inr over ↦ inr over.1 ])))
     (λ all. inl all) (λ held. inl held)
 take_ends left before s0 s1 tells id port past past1 a h0 h1 refused pending0 pending1 line client at n number Memory few is going (inr fails) empty on =
     breaks left before s0 s1 tells id port past past1 a h0 h1 refused pending0 pending1 client at n Memory few (λ lines. tt) (λ rest. tt) memory_after (λ scripts text last. inr last) (λ text held. inl held) going fails on
@@ -214,18 +215,18 @@ write_ends left before s0 s1 tells id port past past1 a h0 h1 h2 refused pending
 pub going_last : {S : Type 0} (left before : S → Option (List ℕ)) (s0 s1 : S) (tells : Type 0) (id port : ℕ) (past past1 : List Exchange) (a h0 h1 : Option (List ℕ)) (refused : Type 0) (pending0 pending1 : List ℕ) (client : ClientState) (n : ℕ) (end : End) → n ≡ 20000 → Going tells id port past a (prepend_known pending0 (left s0)) (before s0) (left s0) h0 h1 (seat client past1) n → LastOf (prepend_known pending0 (left s0)) (prepend_known pending1 (left s1)) end → (end ≡ ReadFault → pending1 ≡ []) → (end ≡ Limit → ReadsOn left before s0 s1 0 pending0) → Reaches tells id port past past1 a (before s1) (left s1) h0 h1 refused end
 going_last left before s0 s1 tells id port past past1 a h0 h1 refused pending0 pending1 client n Done all going ends empty on =
     stays tells id port past past1 a _ (before s0) (left s0) (before s1) (left s1) h0 h1 refused client (seat client past1) n Done going refl (omega (arith, all)) tt
-    (reads a (prepend_known pending0 (left s0)) (before s1) (left s1) Done going.lines going.read (λ bytes rest known known' taken. done_reason (prepend_known pending0 (left s0)) (before s1) (left s1) pending1 bytes rest going.lines known' ends))
+    (reads a (prepend_known pending0 (left s0)) (before s1) (left s1) Done going.lines going.read (λ bytes rest known known' taken. all_read (prepend_known pending0 (left s0)) (left s1) pending1 rest known' ends))
     (λ done. done) (λ held. held)
 going_last left before s0 s1 tells id port past past1 a h0 h1 refused pending0 pending1 client n Limit all going ends empty on =
     let O : ℕ → Type 0 = λ room. ReadsOn left before s0 s1 room pending0 in
     stays tells id port past past1 a _ (before s0) (left s0) (before s1) (left s1) h0 h1 refused client (seat client past1) n Limit going refl (omega (arith, all)) (going.count ∙ all)
     (reads a (prepend_known pending0 (left s0)) (before s1) (left s1) Limit going.lines going.read (λ bytes rest known known' taken.
     let more = rw known' at ends in
-    (some_line rest more, decided_leaves left before s0 s1 a going.lines bytes pending0 rest known known' taken going.last (subst O (sym (room-none going.lines (going.count ∙ all))) (on refl)) more)))
+    (some_line rest more, where_some rest (left s1) (asked left before s0 s1 a going.lines bytes pending0 rest known known' taken going.last (subst O (sym (room-none 20000 going.lines (going.count ∙ all))) (on refl))) more)))
     (λ done. done) (λ held. held)
 going_last left before s0 s1 tells id port past past1 a h0 h1 refused pending0 pending1 client n ReadFault all going ends empty on =
     stays tells id port past past1 a _ (before s0) (left s0) (before s1) (left s1) h0 h1 refused client (seat client past1) n ReadFault going refl (omega (arith, all)) tt
-    (reads a (prepend_known pending0 (left s0)) (before s1) (left s1) ReadFault going.lines going.read (λ bytes rest known known' taken. fault_reason (prepend_known pending0 (left s0)) (before s1) (left s1) 0 pending1 bytes rest going.lines (room-none going.lines (going.count ∙ all)) known' taken (empty refl) (keeps_part _ _ ends)))
+    (reads a (prepend_known pending0 (left s0)) (before s1) (left s1) ReadFault going.lines going.read (λ bytes rest known known' taken. (tt, part_left 20000 0 (prepend_known pending0 (left s0)) (left s1) pending1 bytes rest going.lines (room-none 20000 going.lines (going.count ∙ all)) known' taken (empty refl) (keeps_part _ _ ends))))
     (λ done. done) (λ held. held)
 going_last left before s0 s1 tells id port past past1 a h0 h1 refused pending0 pending1 client n (Bad bad place) all going ends empty on = absurd ends
 going_last left before s0 s1 tells id port past past1 a h0 h1 refused pending0 pending1 client n WriteFault all going ends empty on = absurd ends
@@ -258,10 +259,6 @@ line_does tells id port left_old left_new a b old new number script (Ok u) empty
     record { script = script; takes = takes; does = λ t. said_line id port script a b old new empty (does t) }
 line_does tells id port left_old left_new a b old new number script (Err end) empty takes does fails ends =
     fails_of tells id port left_old left_new a b new number script end takes fails ends
-
--- where nothing is pending, what is left is the source's
-pub part_kept : (limit : ℕ) (old left : Option (List ℕ)) (pending : List ℕ) → pending ≡ [] → TakesPart limit old left → TakesPart limit old (prepend_known pending left)
-part_kept limit old left pending empty part = rw (empty, prepend-nothing left) part
 
 -- doing a line is no fault of the source
 pub never_read : (result : Result Unit End) → IfErr result IsAskEnd → result ≡ Err ReadFault → ⊥

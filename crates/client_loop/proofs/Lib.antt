@@ -2,7 +2,7 @@ mod Whole
 mod Stopped
 mod Submitted
 mod NextLines
-mod Taking
+mod Leaving
 mod Going
 mod Finishing
 mod Exactly

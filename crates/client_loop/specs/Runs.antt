@@ -6,13 +6,14 @@ use Rattle.io_core.specs.Lines.{lines_of, TakesPart}
 use Rattle.io_core.specs.Links.{Exchange}
 use Rattle.client_core.specs.Clients.{ClientState, fresh_client}
 use Rattle.schedule_text.specs.declared.lines.script.ScriptLine.{ScriptLine}
+use Rattle.schedule_text.specs.Taken.{IsOver, TakesLines}
 use Rattle.client_loop.specs.declared.end.End.{End}
 use Rattle.client_loop.specs.declared.end.End.TheVariants.{Done, Bad, Limit, ReadFault, WriteFault, Peer, Garbled, Memory}
 use Rattle.client_loop.specs.Asks.{IsStop}
 use Rattle.client_loop.specs.Byes.{IsStopEnd}
 use Rattle.client_loop.specs.Ends.{status_of, Prints, IsTold, IsBroken}
 use Rattle.client_loop.specs.Scripts.{Seat, seat, DoesLine, FailsLine}
-use Rattle.client_loop.specs.Reading.{AreScripts, TakesScript, BeginsBad, IsOver, IsAfter, HasReason, ReadsWhere, TakesLines, NeedsLastRead}
+use Rattle.client_loop.specs.Reading.{AreScripts, TakesScript, BeginsBad, IsAfter, HasReason, ReadsWhere, NeedsLastRead}
 
 -- ---- lines that were done
 

@@ -2,8 +2,9 @@ ghost use Rattle.std.specs.Prelude.{◌≡◌, [], Err, IfOk};
 ghost use Rattle.std.specs.Io.KnownBytes.{prepend_known};
 ghost use Rattle.io_core.specs.Causes.{HasCauseOrMemory};
 ghost use Rattle.io_core.specs.Lines.{TakesPart, IsTooLong};
+ghost use Rattle.schedule_text.specs.Taken.{ReadsOn};
 ghost use Rattle.client_loop.specs.Ends.{Counts};
-ghost use Rattle.client_loop.specs.Reading.{IsLineOrBad, IsLongBad, IsNextOf, LastOf, ReadsOn};
+ghost use Rattle.client_loop.specs.Reading.{IsLineOrBad, IsLongBad, IsNextOf, LastOf};
 
 use crate::end::End;
 use io_core::{Fault, Pending, ReadLine, Source, next_byte, next_line};

@@ -4,9 +4,9 @@ ghost use Rattle.io_core.specs.Causes.{Rose};
 ghost use Rattle.io_core.specs.Links.{Exchange};
 ghost use Rattle.client_core.specs.Clients.{fresh_client};
 ghost use Rattle.client_core.specs.States.{client_state};
+ghost use Rattle.schedule_text.specs.Taken.{ReadsOn};
 ghost use Rattle.client_loop.specs.Ends.{Counts, IsBroken};
 ghost use Rattle.client_loop.specs.Scripts.{seat};
-ghost use Rattle.client_loop.specs.Reading.{ReadsOn};
 ghost use Rattle.client_loop.specs.Runs.{DoesOf, WritesOf, Going, Reaches, RunsScript, ComesExactly};
 
 use crate::end::{End, finish};

@@ -1,12 +1,13 @@
 -- How a replay ends.
 use Rattle.std.proofs.Common.{◌≡◌, ◌⊎◌, ℕ, ◌+◌, ◌<◌, ◌≤◌, List, [], ◌∷◌, ◌++◌, length, take, arith, refl, sym, ◌∙◌, ap, subst, Option, None, Some, Result, Ok, Err, inl, inr}
 use Rattle.std.specs.Prelude.{true}
-use Rattle.std.specs.Io.KnownBytes.{Keeps, prepend_known}
+use Rattle.std.specs.Io.KnownBytes.{prepend_known}
+use Rattle.std.proofs.KnownBytes.{prepend_known-nil}
 use Rattle.std.proofs.lemmas.Bool.Decides.{nat_tests}
 use Rattle.std.proofs.lemmas.List.{append-nil}
 use Rattle.std.proofs.Math.Seq.{take-append-add as take-past}
 use Rattle.io_core.specs.Bytes.{AppendsPrefix}
-use Rattle.io_core.specs.Lines.{lines_of, IsOpen, TakesPart, IsReadWhileOpen}
+use Rattle.io_core.specs.Lines.{lines_of, IsReadWhileOpen}
 use Rattle.io_core.proofs.Known.{Appends-nothing, Appends-more}
 use Rattle.proto_model.specs.Quorums.{is_within}
 use Rattle.net_model.specs.declared.cluster.Cluster.{Cluster}
@@ -14,32 +15,27 @@ use Rattle.world_law.specs.Worlds.{WorldState}
 use Rattle.schedule_text.specs.declared.lines.form.Name.{Name}
 use Rattle.schedule_text.specs.Spellings.{IsClusterOutOfRange, IsEventOutOfRange}
 use Rattle.schedule_text.specs.Places.{IsBadEvent}
+use Rattle.schedule_text.specs.Taken.{AreTaken, TakesLines, FirstHas, NextHas, IsOver, ReadsOn, room_after, ReadsNoFurther, IsReadForOne}
 use Rattle.schedule_text.specs.Outcomes.{printed}
+use Rattle.schedule_text.proofs.Taken.{TakesLines-none, lines-rest, some_line, some_first, all_read, keeps_part, part_left, room-some, room-none, reads_first, reads_on, where_some}
 use Rattle.schedule_replay.specs.Schedules.{IsBadNext, IsOutNext}
 use Rattle.schedule_replay.specs.declared.fault.ReplayFault.{ReplayFault}
 use Rattle.schedule_replay.specs.declared.fault.ReplayFault.TheVariants.{Read, Write, Line, Range, TooManyEvents, Memory}
-use Rattle.schedule_replay.specs.Replays.{IsAfter, IsFollowed, room_after, ReadsNoFurther, Leaves, ReadsWhere}
-use Rattle.schedule_replay.specs.Steps.{IsOver, FirstHas, NextHas, IsBadFirst, BeginsBad, FirstOf, ReadsOn, EndsOf, BeginsOf, TurnOf, WritesOf, IsTold, AreTaken, TakesLines, NeedsLastRead, Going, Reaches}
-use Rattle.schedule_replay.proofs.TakingLines.{lines-rest, TakesLines-none, gave, prepend-nothing, takes_piece, TakesPiece, reads_on, room-some, room-none, known_last, decided_leaves, some_line, keeps_part}
+use Rattle.schedule_replay.specs.Replays.{IsAfter, IsFollowed, Leaves, ReadsWhere}
+use Rattle.schedule_replay.specs.Steps.{IsBadFirst, BeginsBad, FirstOf, EndsOf, BeginsOf, TurnOf, WritesOf, IsTold, NeedsLastRead, Going, Reaches}
 use Rattle.schedule_replay.proofs.Going.{going_written}
 
 -- ---- what follows an end
 
-nothing_after : (pending xs : List ℕ) → pending ++ xs ≡ [] → xs ≡ []
-nothing_after [] xs e = e
-nothing_after (x ∷ pending) xs e = cc
+-- the last read, where it is known what was left
+known_last : (a before left : Option (List ℕ)) (bytes : List ℕ) (lines : List (List ℕ)) → a ≡ Some bytes → NeedsLastRead lines a before left → IsReadForOne 20001 lines bytes before left
+known_last None before left bytes lines is last = let e : None ≡ Some bytes = is in cc
+known_last (Some xs) before left bytes lines is last = let same : xs ≡ bytes = cc in rw same at last
 
-over_left : (rest pending : List ℕ) (left : Option (List ℕ)) → rest ≡ [] → Keeps (Some rest) (prepend_known pending left) → left ≡ Some []
-over_left rest pending None none kept = absurd kept
-over_left rest pending (Some xs) none kept = ap Some (nothing_after pending xs (kept ∙ none))
-
-memory_leaves : {S : Type 0} (left before : S → Option (List ℕ)) (s0 s1 : S) (a : Option (List ℕ)) (lines : List (List ℕ)) (bytes pending mid : List ℕ) → a ≡ Some bytes → prepend_known pending (left s0) ≡ Some mid → AreTaken bytes mid lines → NeedsLastRead lines a (before s0) (left s0) → ReadsOn left before s0 s1 (room_after lines) pending → Leaves (Err Memory) lines bytes (before s1) (left s1)
-memory_leaves left before s0 s1 a lines bytes pending mid known here taken last on =
-    elim (reads_on left before s0 s1 lines bytes pending mid taken here (known_last a (before s0) (left s0) bytes lines known last) on) [ inl further ↦ inr (inl further) | inr p ↦ inr (inr p.1) ]
-
--- there is a next line where one has P
-some_first : (P : List ℕ → Type 0) (rest : List ℕ) → FirstHas P (lines_of rest) → ¬ (rest ≡ [])
-some_first P rest has is = rw is at has
+-- the last read, once one line more is asked for, unless nothing was left
+asked : {S : Type 0} (left before : S → Option (List ℕ)) (s0 s1 : S) (a : Option (List ℕ)) (lines : List (List ℕ)) (bytes pending mid : List ℕ) → a ≡ Some bytes → prepend_known pending (left s0) ≡ Some mid → AreTaken bytes mid lines → NeedsLastRead lines a (before s0) (left s0) → ReadsOn left before s0 s1 (room_after 20001 lines) pending → ReadsNoFurther 20001 lines bytes (before s1) (left s1) ⊎ ((mid ≡ []) × (left s1 ≡ Some []))
+asked left before s0 s1 a lines bytes pending mid known here taken last on =
+    reads_on left before s0 s1 20001 lines bytes pending mid (λ b l. ReadsNoFurther 20001 lines bytes b l) taken here (known_last a (before s0) (left s0) bytes lines known last).reads (λ b l further. further) on
 
 bad_next : (lines rest : List (List ℕ)) (at : ℕ) → 0 < length lines → FirstHas (λ line. IsBadEvent line at) rest → IsBadNext lines rest at
 bad_next [] rest at some has = absurd (omega arith)
@@ -50,25 +46,6 @@ out_next : (cluster : Cluster) (lines rest : List (List ℕ)) (name : Name) → 
 out_next cluster [] rest name some has = absurd (omega arith)
 out_next cluster (first ∷ lines) [] name some has = absurd has
 out_next cluster (first ∷ lines) (line ∷ rest) name some has = has
-
--- the source was read to its end
-done_reason : (b before left : Option (List ℕ)) (cluster : Cluster) (pending bytes rest : List ℕ) (lines : List (List ℕ)) → b ≡ Some rest → IsOver b (prepend_known pending left) → IsFollowed (Ok tt) cluster lines (lines_of rest) × Leaves (Ok tt) lines bytes before left
-done_reason b before left cluster pending bytes rest lines is over =
-    let none : rest ≡ [] = rw is at over.none in
-    let kept = rw is at over.same in
-    (ap lines_of none, over_left rest pending left none kept)
-
--- a read failed
-fault_reason : (b before left : Option (List ℕ)) (limit : ℕ) (cluster : Cluster) (pending bytes rest : List ℕ) (lines : List (List ℕ)) → room_after lines ≡ limit → b ≡ Some rest → AreTaken bytes rest lines → pending ≡ [] → TakesPart limit b (prepend_known pending left) → IsFollowed (Err Read) cluster lines (lines_of rest) × Leaves (Err Read) lines bytes before left
-fault_reason b before left limit cluster pending bytes rest lines room is taken empty part =
-    (tt, with_left left (rw (is, empty, prepend-nothing left) at part))
-  where
-    R : ℕ → List ℕ → Type 0
-    R l xs = IsOpen l xs
-
-    with_left : (left : Option (List ℕ)) → TakesPart limit (Some rest) left → Leaves (Err Read) lines bytes before left
-    with_left None p = absurd p
-    with_left (Some ys) p = gave bytes rest ys p.0 lines taken (subst (λ (l : ℕ). R l p.0) (sym room) p.1) p.2
 
 -- the reason of an end, of a source that tells
 reads : (a b before left : Option (List ℕ)) (end : Result Unit ReplayFault) (cluster : Cluster) (lines : List (List ℕ)) → TakesLines a b lines → ((bytes rest : List ℕ) → a ≡ Some bytes → b ≡ Some rest → AreTaken bytes rest lines → IsFollowed end cluster lines (lines_of rest) × Leaves end lines bytes before left) → ReadsWhere end cluster a before left lines
@@ -108,7 +85,7 @@ module _ (P : Type 0) (shows : P → WorldState → Type 0) (cluster : P → Clu
   pub going_over : {S : Type 0} (left before : S → Option (List ℕ)) (s0 s1 : S) (a h0 h1 : Option (List ℕ)) (refused : Type 0) (pending0 pending1 w0 w1 : List ℕ) (old : P) (n : ℕ) → 0 < n → n ≤ 20001 → Going shows cluster a (prepend_known pending0 (left s0)) (before s0) (left s0) h0 h1 w0 old n → IsOver (prepend_known pending0 (left s0)) (prepend_known pending1 (left s1)) → w1 ≡ w0 → Reaches a (before s1) (left s1) h0 h1 refused w1 (Ok tt)
   going_over left before s0 s1 a h0 h1 refused pending0 pending1 w0 w1 old n some most going over same =
       rw same (going_ends a _ (before s0) (left s0) (before s1) (left s1) h0 h1 refused w0 old n (Ok tt) going most (omega (arith, going.count))
-      (reads a (prepend_known pending0 (left s0)) (before s1) (left s1) (Ok tt) (cluster old) going.lines going.read (λ bytes rest known known' taken. done_reason (prepend_known pending0 (left s0)) (before s1) (left s1) (cluster old) pending1 bytes rest going.lines known' over))
+      (reads a (prepend_known pending0 (left s0)) (before s1) (left s1) (Ok tt) (cluster old) going.lines going.read (λ bytes rest known known' taken. all_read (prepend_known pending0 (left s0)) (left s1) pending1 rest known' over))
       going.told)
 
   -- a turn that ends the loop
@@ -120,7 +97,7 @@ module _ (P : Type 0) (shows : P → WorldState → Type 0) (cluster : P → Clu
       (reads a (prepend_known pending0 (left s0)) (before s1) (left s1) (Err (Line l at)) (cluster old) going.lines going.read (λ bytes rest known known' taken.
       let has : FirstHas F (lines_of rest) = rw known' at turn.0 in (
         bad_next going.lines (lines_of rest) at (omega (arith, going.count)) has,
-        decided_leaves left before s0 s1 a going.lines bytes pending0 rest known known' taken going.last (subst O (sym (room-some going.lines n going.count most)) on) (some_first F rest has),
+        where_some rest (left s1) (asked left before s0 s1 a going.lines bytes pending0 rest known known' taken going.last (subst O (sym (room-some 20001 going.lines n going.count (omega (arith, most)))) on)) (some_first F rest has),
       )))
       going.told)
   going_turn_ends left before s0 s1 a h0 h1 refused pending0 pending1 w0 w1 old new n number (Range l name) some most is going turn empty on =
@@ -130,17 +107,17 @@ module _ (P : Type 0) (shows : P → WorldState → Type 0) (cluster : P → Clu
       (reads a (prepend_known pending0 (left s0)) (before s1) (left s1) (Err (Range l name)) (cluster old) going.lines going.read (λ bytes rest known known' taken.
       let has : FirstHas F (lines_of rest) = rw known' at turn.0 in (
         out_next (cluster old) going.lines (lines_of rest) name (omega (arith, going.count)) has,
-        decided_leaves left before s0 s1 a going.lines bytes pending0 rest known known' taken going.last (subst O (sym (room-some going.lines n going.count most)) on) (some_first F rest has),
+        where_some rest (left s1) (asked left before s0 s1 a going.lines bytes pending0 rest known known' taken going.last (subst O (sym (room-some 20001 going.lines n going.count (omega (arith, most)))) on)) (some_first F rest has),
       )))
       going.told)
   going_turn_ends left before s0 s1 a h0 h1 refused pending0 pending1 w0 w1 old new n number Read some most is going turn empty on =
       rw turn.1 (going_ends a _ (before s0) (left s0) (before s1) (left s1) h0 h1 refused w0 old n (Err Read) going (omega arith) tt
-      (reads a (prepend_known pending0 (left s0)) (before s1) (left s1) (Err Read) (cluster old) going.lines going.read (λ bytes rest known known' taken. fault_reason (prepend_known pending0 (left s0)) (before s1) (left s1) 512 (cluster old) pending1 bytes rest going.lines (room-some going.lines n going.count most) known' taken (empty refl) turn.0))
+      (reads a (prepend_known pending0 (left s0)) (before s1) (left s1) (Err Read) (cluster old) going.lines going.read (λ bytes rest known known' taken. (tt, part_left 20001 512 (prepend_known pending0 (left s0)) (left s1) pending1 bytes rest going.lines (room-some 20001 going.lines n going.count (omega (arith, most))) known' taken (empty refl) turn.0)))
       going.told)
   going_turn_ends left before s0 s1 a h0 h1 refused pending0 pending1 w0 w1 old new n number Memory some most is going turn empty on =
       let O : ℕ → Type 0 = λ room. ReadsOn left before s0 s1 room pending0 in
       rw turn (going_ends a _ (before s0) (left s0) (before s1) (left s1) h0 h1 refused w0 old n (Err Memory) going (omega arith) tt
-      (reads a (prepend_known pending0 (left s0)) (before s1) (left s1) (Err Memory) (cluster old) going.lines going.read (λ bytes rest known known' taken. (tt, memory_leaves left before s0 s1 a going.lines bytes pending0 rest known known' taken going.last (subst O (sym (room-some going.lines n going.count most)) on))))
+      (reads a (prepend_known pending0 (left s0)) (before s1) (left s1) (Err Memory) (cluster old) going.lines going.read (λ bytes rest known known' taken. (tt, elim (asked left before s0 s1 a going.lines bytes pending0 rest known known' taken going.last (subst O (sym (room-some 20001 going.lines n going.count (omega (arith, most)))) on)) [ inl further ↦ inr (inl further) | inr over ↦ inr (inr over.1) ])))
       (inl going.told))
   going_turn_ends left before s0 s1 a h0 h1 refused pending0 pending1 w0 w1 old new n number Write some most is going turn empty on = absurd turn
   going_turn_ends left before s0 s1 a h0 h1 refused pending0 pending1 w0 w1 old new n number TooManyEvents some most is going turn empty on = absurd turn
@@ -189,12 +166,12 @@ module _ (P : Type 0) (shows : P → WorldState → Type 0) (cluster : P → Clu
       going_ends a _ (before s0) (left s0) (before s1) (left s1) h0 h2 refused w1 p n (Err TooManyEvents) written (omega (arith, all)) (written.count ∙ all)
       (reads a (prepend_known pending0 (left s0)) (before s1) (left s1) (Err TooManyEvents) (cluster p) written.lines written.read (λ bytes rest known known' taken.
       let more = rw known' at ends.0 in
-      (some_line rest more, decided_leaves left before s0 s1 a written.lines bytes pending0 rest known known' taken written.last (subst O (sym (room-none written.lines (written.count ∙ all))) (on refl)) more)))
+      (some_line rest more, where_some rest (left s1) (asked left before s0 s1 a written.lines bytes pending0 rest known known' taken written.last (subst O (sym (room-none 20001 written.lines (written.count ∙ all))) (on refl))) more)))
       written.told
   going_last left before s0 s1 a h0 h1 h2 refused pending0 pending1 w0 w1 p n (Err Read) all going ends empty on alone why =
       let written = going_written P shows cluster a _ (before s0) (left s0) h0 h1 h2 w0 w1 p n going ends.1 in
       going_ends a _ (before s0) (left s0) (before s1) (left s1) h0 h2 refused w1 p n (Err Read) written (omega (arith, all)) tt
-      (reads a (prepend_known pending0 (left s0)) (before s1) (left s1) (Err Read) (cluster p) written.lines written.read (λ bytes rest known known' taken. fault_reason (prepend_known pending0 (left s0)) (before s1) (left s1) 0 (cluster p) pending1 bytes rest written.lines (room-none written.lines (written.count ∙ all)) known' taken (empty refl) (keeps_part _ _ ends.0)))
+      (reads a (prepend_known pending0 (left s0)) (before s1) (left s1) (Err Read) (cluster p) written.lines written.read (λ bytes rest known known' taken. (tt, part_left 20001 0 (prepend_known pending0 (left s0)) (left s1) pending1 bytes rest written.lines (room-none 20001 written.lines (written.count ∙ all)) known' taken (empty refl) (keeps_part _ _ ends.0))))
       written.told
   going_last left before s0 s1 a h0 h1 h2 refused pending0 pending1 w0 w1 p n (Err Memory) all going ends empty on alone why =
       rw (alone (inr refl)) (going_write_ends a _ (before s0) (left s0) h0 h1 h2 refused w0 w1 p n Memory (omega (arith, all)) going ends (λ _. why refl))
@@ -237,39 +214,23 @@ out_first name [] has = absurd has
 out_first name (line ∷ rest) has = has
 
 -- nothing but a part of the first line was given before the last read
-none_read : (a before left : Option (List ℕ)) (bytes : List ℕ) → a ≡ Some bytes → IsReadWhileOpen 512 [] a before left → ReadsNoFurther [] bytes before left
+none_read : (a before left : Option (List ℕ)) (bytes : List ℕ) → a ≡ Some bytes → IsReadWhileOpen 512 [] a before left → ReadsNoFurther 20001 [] bytes before left
 none_read None before left bytes is p = let e : None ≡ Some bytes = is in cc
-none_read (Some xs) before left bytes is p =
-    let same : xs ≡ bytes = cc in
-    rw same at (at_start (takes_piece 512 [] xs before left p))
-  where
-    at_start : TakesPiece 512 xs before left → ReadsNoFurther [] xs before left
-    at_start piece = record {
-      earlier = [];
-      later = [];
-      front = refl;
-      part = piece.part;
-      piece = piece.piece;
-      rest = piece.rest;
-      before_is = piece.before_is;
-      left_is = piece.left_is;
-      split = piece.split;
-      open_yet = piece.open_yet;
-    }
+none_read (Some xs) before left bytes is p = let same : xs ≡ bytes = cc in rw same at (reads_first 20001 xs before left p)
 
 pub first_ends : (P : Type 0) (shows : P → WorldState → Type 0) (cluster : P → Cluster) (a here before left held : Option (List ℕ)) (refused : Type 0) (pending pending' waiting : List ℕ) (fault : ReplayFault) → pending ≡ [] → waiting ≡ [] → here ≡ prepend_known pending' left → BeginsOf shows cluster (prepend_known pending a) here a before left (Err fault) → (fault ≡ Read → pending' ≡ []) → Reaches a before left held held refused waiting (Err fault)
 first_ends P shows cluster a here before left held refused pending pending' waiting (Line l at) fresh empty is first none =
-    let p : BeginsBad at a = rw (fresh, prepend-nothing a) at first.0 in
+    let p : BeginsBad at a = rw (fresh, prepend_known-nil a) at first.0 in
     nothing_read a before left held refused waiting (Err (Line l at)) empty (first.1, omega arith)
     (reads a a before left (Err (Line l at)) nobody [] (TakesLines-none a) (λ bytes rest known known' taken. (bad_first at (lines_of rest) (rw known' at p), none_read a before left bytes known first.2))) refl
 first_ends P shows cluster a here before left held refused pending pending' waiting (Range l name) fresh empty is first none =
-    let p : NextHas (λ line. IsClusterOutOfRange line name) a = rw (fresh, prepend-nothing a) at first.0 in
+    let p : NextHas (λ line. IsClusterOutOfRange line name) a = rw (fresh, prepend_known-nil a) at first.0 in
     nothing_read a before left held refused waiting (Err (Range l name)) empty (first.1, omega arith)
     (reads a a before left (Err (Range l name)) nobody [] (TakesLines-none a) (λ bytes rest known known' taken. (out_first name (lines_of rest) (rw known' at p), none_read a before left bytes known first.2))) refl
 first_ends P shows cluster a here before left held refused pending pending' waiting Read fresh empty is first none =
-    let p = rw (fresh, prepend-nothing a, is) at first in
+    let p = rw (fresh, prepend_known-nil a, is) at first in
     nothing_read a before left held refused waiting (Err Read) empty tt
-    (reads a a before left (Err Read) nobody [] (TakesLines-none a) (λ bytes rest known known' taken. fault_reason a before left 512 nobody pending' bytes rest [] refl known' taken (none refl) p)) refl
+    (reads a a before left (Err Read) nobody [] (TakesLines-none a) (λ bytes rest known known' taken. (tt, part_left 20001 512 a left pending' bytes rest [] refl known' taken (none refl) p))) refl
 first_ends P shows cluster a here before left held refused pending pending' waiting Memory fresh empty is first none =
     nothing_read a before left held refused waiting (Err Memory) empty tt
     (reads a a before left (Err Memory) nobody [] (TakesLines-none a) (λ bytes rest known known' taken.

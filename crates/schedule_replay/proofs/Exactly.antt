@@ -1,7 +1,7 @@
 -- What is printed at each end, and that the lines decide how a replay ends.
 use Rattle.std.proofs.Common.{◌≡◌, ◌⊎◌, inl, inr, ℕ, ◌<◌, ◌≤◌, List, [], ◌∷◌, ◌++◌, length, take, arith, refl, sym, ◌∙◌, Option, Some, None, Result, Ok, Err, subst, length-take}
 use Rattle.std.specs.Io.KnownBytes.{Appends}
-use Rattle.std.proofs.lemmas.List.{take-take, take_all}
+use Rattle.std.proofs.lemmas.List.{append_cancel_left, take-take, take_all}
 use Rattle.io_core.specs.Bytes.{AppendsPrefix}
 use Rattle.io_core.proofs.Known.{Appends-nothing, Appends-more, AppendsPrefix-more}
 use Rattle.io_core.specs.Causes.{Rose}
@@ -176,12 +176,8 @@ not_first (Err Memory) c d line rest more x p is cut = x
 
 -- ---- whatever the lines
 
-cancel : (xs r s : List (List ℕ)) → xs ++ r ≡ xs ++ s → r ≡ s
-cancel [] r s e = e
-cancel (x ∷ xs) r s e = cancel xs r s cc
-
 rest_same : (xs ys r s : List (List ℕ)) → xs ≡ ys → xs ++ r ≡ ys ++ s → r ≡ s
-rest_same xs ys r s e both = let P : List (List ℕ) → Type 0 = λ z. xs ++ r ≡ z ++ s in cancel xs r s (subst P (sym e) both)
+rest_same xs ys r s e both = let P : List (List ℕ) → Type 0 = λ z. xs ++ r ≡ z ++ s in append_cancel_left xs r s (subst P (sym e) both)
 
 -- the lines decide the end
 same_end : (a b : Result Unit ReplayFault) (c1 : Cluster) (l1 : List (List ℕ)) (e1 : List Event) (r1 : List (List ℕ)) (c2 : Cluster) (l2 : List (List ℕ)) (e2 : List Event) (r2 : List (List ℕ)) → IsDecided a → IsDecided b → IsSchedule l1 c1 e1 → IsSchedule l2 c2 e2 → l1 ++ r1 ≡ l2 ++ r2 → HasReason a c1 l1 r1 → HasReason b c2 l2 r2 → a ≡ b

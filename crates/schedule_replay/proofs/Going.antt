@@ -1,8 +1,10 @@
 -- A replay, line by line: what was read and printed so far, and one line more.
-use Rattle.std.proofs.Common.{◌≡◌, ℕ, ◌+◌, ◌<◌, ◌≤◌, List, [], ◌∷◌, ◌++◌, arith, refl, sym, ◌∙◌, ap, subst, append_assoc, length-append, Option, Ok}
+use Rattle.std.proofs.Common.{◌≡◌, ℕ, ◌+◌, ◌<◌, ◌≤◌, List, [], ◌∷◌, ◌++◌, arith, refl, sym, ◌∙◌, ap, subst, append_assoc, length-append, Option, None, Some, Ok, inl, inr}
 use Rattle.std.specs.Io.KnownBytes.{prepend_known}
+use Rattle.std.proofs.KnownBytes.{prepend_known-nil}
 use Rattle.std.proofs.lemmas.List.{append-nil}
 use Rattle.std.proofs.lemmas.Grind.{flat_map-append}
+use Rattle.io_core.specs.Lines.{TakesLine, IsReadWhileOpen}
 use Rattle.io_core.proofs.Known.{Appends-nothing, Appends-more}
 use Rattle.proto_model.proofs.TableLemmas.{AllByRecursion-append}
 use Rattle.net_model.specs.declared.cluster.Cluster.{Cluster}
@@ -10,17 +12,32 @@ use Rattle.net_model.specs.declared.outcome.Outcome.{Outcome}
 use Rattle.world_law.specs.Worlds.{WorldState, start}
 use Rattle.world_law.specs.Runs.{IsRunOnFiles, HasFiles, last_world}
 use Rattle.world_law.proofs.Runs.{IsRun-push, last_world-push}
+use Rattle.schedule_text.specs.Taken.{TakesLines, IsOver, ReadsOn, room_after}
 use Rattle.schedule_text.specs.Outcomes.{printed, outcome_line}
+use Rattle.schedule_text.proofs.Taken.{TakesLines-none, TakesLines-more, needs_read, without_read, room-some}
 use Rattle.schedule_replay.specs.Plays.{StandFor}
 use Rattle.schedule_replay.specs.Schedules.{IsSchedule}
 use Rattle.schedule_replay.specs.declared.events.Turned.{Turned}
 use Rattle.schedule_replay.specs.declared.events.Turned.TheVariants.{More, Over}
-use Rattle.schedule_replay.specs.Steps.{ReadsOn, BeginsReplay, IsOver, TurnOf, Turns, Moves, Going}
+use Rattle.schedule_replay.specs.Steps.{BeginsReplay, TurnOf, Turns, Moves, NeedsLastRead, Going}
 use Rattle.schedule_replay.proofs.ScheduleLemmas.{IsSchedule-push}
-use Rattle.schedule_replay.proofs.TakingLines.{TakesLines-none, TakesLines-more, prepend-nothing, first_read, needs_more, room-some}
 
 printed-push : (outcomes : List Outcome) (outcome : Outcome) → printed (outcomes ++ outcome ∷ []) ≡ printed outcomes ++ outcome_line outcome
 printed-push outcomes outcome = flat_map-append outcome_line outcomes (outcome ∷ []) ∙ ap (λ xs. printed outcomes ++ xs) (append-nil (outcome_line outcome))
+
+-- the first line needed the last read
+first_read : (a next before left : Option (List ℕ)) (line : List ℕ) → TakesLine a next line → IsReadWhileOpen 512 [] a before left → NeedsLastRead (line ∷ []) a before left
+first_read None next before left line takes p = tt
+first_read (Some bytes) next before left line takes p =
+    needs_read 20001 bytes [] line (Some bytes) next before left [] (TakesLines-none (Some bytes)) takes p
+
+-- one line more
+needs_more : {S : Type 0} (left before : S → Option (List ℕ)) (old new : S) (a next : Option (List ℕ)) (pending line : List ℕ) (lines : List (List ℕ)) → TakesLines a (prepend_known pending (left old)) lines → NeedsLastRead lines a (before old) (left old) → TakesLine (prepend_known pending (left old)) next line → ReadsOn left before old new (room_after 20001 lines) pending → NeedsLastRead (lines ++ line ∷ []) a (before new) (left new)
+needs_more left before old new None next pending line lines taken last takes on = tt
+needs_more left before old new (Some bytes) next pending line lines taken last takes (inl same) =
+    rw same (without_read 20001 bytes line (before old) (left old) lines last)
+needs_more left before old new (Some bytes) next pending line lines taken last takes (inr p) =
+    needs_read 20001 bytes pending line (left old) next (before new) (left new) lines taken takes p
 
 module _ (P : Type 0) (shows : P → WorldState → Type 0) (cluster : P → Cluster) where
   -- the files of each world that is shown stand for its nodes' states
@@ -29,21 +46,23 @@ module _ (P : Type 0) (shows : P → WorldState → Type 0) (cluster : P → Clu
 
   -- after the first line
   pub going_first : (standing : Standing) (a here before left held : Option (List ℕ)) (pending waiting : List ℕ) (p : P) → pending ≡ [] → waiting ≡ [] → BeginsReplay shows cluster (prepend_known pending a) here a before left p → Going shows cluster a here before left held held waiting p 1
-  going_first standing a here before left held pending waiting p fresh empty begins = record {
-    lines = begins.takes.line ∷ [];
-    events = [];
-    outcomes = [];
-    worlds = [];
-    schedule = (begins.takes.first, tt);
-    run = record { run = tt; files = (standing p (start (cluster p)) begins.shown, tt) };
-    shown = begins.shown;
-    read = TakesLines-more a a here [] begins.takes.line (TakesLines-none a) (rw (fresh, prepend-nothing a) at begins.takes.read);
-    last = first_read a before left begins.takes.line begins.read;
-    written = [];
-    held = Appends-nothing held;
-    told = empty;
-    count = refl;
-  }
+  going_first standing a here before left held pending waiting p fresh empty begins =
+      let takes = rw (fresh, prepend_known-nil a) at begins.takes.read in
+      record {
+        lines = begins.takes.line ∷ [];
+        events = [];
+        outcomes = [];
+        worlds = [];
+        schedule = (begins.takes.first, tt);
+        run = record { run = tt; files = (standing p (start (cluster p)) begins.shown, tt) };
+        shown = begins.shown;
+        read = TakesLines-more a a here [] begins.takes.line (TakesLines-none a) takes;
+        last = first_read a here before left begins.takes.line takes begins.read;
+        written = [];
+        held = Appends-nothing held;
+        told = empty;
+        count = refl;
+      }
 
   -- some of what waited was written
   pub going_written : (a b before left h0 h1 h2 : Option (List ℕ)) (w0 w1 : List ℕ) (p : P) (n : ℕ) → Going shows cluster a b before left h0 h1 w0 p n → Moves h1 h2 w0 w1 → Going shows cluster a b before left h0 h2 w1 p n
@@ -95,7 +114,7 @@ module _ (P : Type 0) (shows : P → WorldState → Type 0) (cluster : P → Clu
         });
         shown = subst V (sym (last_world-push (start (cluster new)) going.worlds step.new)) step.shown;
         read = TakesLines-more a (prepend_known pending0 (left s0)) (prepend_known pending1 (left s1)) going.lines turn.takes.line going.read turn.takes.read;
-        last = needs_more left before s0 s1 a (prepend_known pending1 (left s1)) pending0 turn.takes.line going.lines going.read going.last turn.takes.read (subst O (sym (room-some going.lines n going.count few)) reads);
+        last = needs_more left before s0 s1 a (prepend_known pending1 (left s1)) pending0 turn.takes.line going.lines going.read going.last turn.takes.read (subst O (sym (room-some 20001 going.lines n going.count (omega (arith, few)))) reads);
         written = going.written;
         held = going.held;
         told = ap (λ w. going.written ++ w) turn.on.text ∙ (sym (append_assoc going.written w0 (outcome_line turn.on.outcome)) ∙ (ap (λ t. t ++ outcome_line turn.on.outcome) going.told ∙ sym (printed-push going.outcomes turn.on.outcome)));

@@ -18,8 +18,8 @@ use Rattle.net_model.specs.Events.{IsInRange}
 use Rattle.schedule_text.specs.Forms.{row_of}
 use Rattle.schedule_text.specs.Lines.{Parts, number_text, line_text, lists_text, HasLists, AreNumbers}
 use Rattle.schedule_text.specs.Spellings.{parts_of, first_parts, SpellsLine}
+use Rattle.schedule_text.specs.Taken.{text_of}
 use Rattle.schedule_replay.specs.Schedules.{IsFirstLine, IsFurtherLine, AreFurtherLines}
-use Rattle.schedule_replay.specs.Replays.{text_of}
 use Rattle.schedule_replay.specs.Numbered.{Numbered, next_state, drawn, settled, of_one, asked, key_of, adding, appended, rarely, by_draw, numbered_from, state_after, event_after, numbered_events, numbered_cluster, event_line, numbered_lines}
 use Rattle.schedule_replay.specs.NumberedLaws.{NumbersHaveSchedules, IsFixed, bare, NumbersHaveOneRun}
 use Rattle.schedule_replay.specs.Drills.{summary_of}

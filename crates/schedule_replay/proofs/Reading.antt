@@ -1,27 +1,19 @@
 -- What a line that was read is.
 use Rattle.std.proofs.Common.{◌≡◌, ◌<◌, ◌≤◌, ◌∙◌, ℕ, List, [], ◌∷◌, ◌++◌, length, arith, length-append, sym, subst, Option, None, Some, Result, Ok, Err, inl, inr}
-use Rattle.std.specs.Io.KnownBytes.{Consumes, Keeps, prepend_known}
-use Rattle.std.proofs.lemmas.List.{append-nil}
-use Rattle.io_core.specs.Lines.{lines_of, TakesLine, TakesPart, IsTooLong, IsReadWhileOpen, ReadsWhileOpen}
-use Rattle.io_core.proofs.LineLemmas.{lines_of-line, lines_of-begun, Consumes-keeps, TakesByte, TakesByte-next}
+use Rattle.std.specs.Io.KnownBytes.{Consumes}
+use Rattle.io_core.specs.Lines.{TakesLine, IsTooLong, IsReadWhileOpen, ReadsWhileOpen}
+use Rattle.io_core.proofs.LineLemmas.{lines_of-line}
 use Rattle.net_model.specs.declared.cluster.Cluster.{Cluster}
 use Rattle.net_model.specs.declared.event.Event.{Event as AnEvent}
 use Rattle.schedule_text.specs.Spellings.{IsEventOutOfRange, IsClusterOutOfRange}
 use Rattle.schedule_text.specs.Places.{IsBadEvent, IsBadCluster}
 use Rattle.schedule_text.proofs.LawLemmas.{long_lines}
+use Rattle.schedule_text.proofs.Taken.{next_has, long_has, too_long_lines}
 use Rattle.schedule_replay.specs.declared.fault.ReplayFault.{ReplayFault}
 use Rattle.schedule_replay.specs.declared.fault.ReplayFault.TheVariants.{Read, Write, Line, Range, TooManyEvents, Memory}
-use Rattle.schedule_replay.proofs.TakingLines.{prepend-nothing}
-use Rattle.schedule_replay.specs.Steps.{SaysEvent, SaysCluster, FirstHas, NextHas, NextOf, IsBadFirst, BeginsBad, FirstOf, ReadsOn}
+use Rattle.schedule_replay.specs.Steps.{SaysEvent, SaysCluster, NextOf, IsBadFirst, BeginsBad, FirstOf}
 
 -- ---- a whole line
-
-next_has : (P : List ℕ → Type 0) (a b : Option (List ℕ)) (line : List ℕ) → TakesLine a b line → P line → NextHas P a
-next_has P None b line read has = tt
-next_has P (Some xs) None line read has = absurd read
-next_has P (Some xs) (Some ys) line read has =
-    let F : List (List ℕ) → Type 0 = λ lines. FirstHas P lines in
-    subst F (sym (lines_of-line xs line ys read)) has
 
 bad_first : (at : ℕ) (a b : Option (List ℕ)) (line : List ℕ) → TakesLine a b line → IsBadCluster line at → BeginsBad at a
 bad_first at None b line read has = tt
@@ -48,17 +40,6 @@ first_line_is a b line (Err Write) read says = absurd says
 first_line_is a b line (Err TooManyEvents) read says = absurd says
 
 -- ---- a line that is too long
-
-too_long_lines : (xs ys front : List ℕ) → xs ≡ front ++ ys → IsTooLong 512 front → (more : List ℕ) × (rest : List (List ℕ)) × (lines_of xs ≡ (front ++ more) ∷ rest)
-too_long_lines xs ys front cut long = rw cut (lines_of-begun front ys long.plain (omega (arith, long.size)))
-
-long_has : (P : List ℕ → Type 0) (a b : Option (List ℕ)) (front : List ℕ) → Consumes a b front → IsTooLong 512 front → ((more : List ℕ) → P (front ++ more)) → NextHas P a
-long_has P None b front read long has = tt
-long_has P (Some xs) None front read long has = absurd read
-long_has P (Some xs) (Some ys) front read long has =
-    let F : List (List ℕ) → Type 0 = λ lines. FirstHas P lines in
-    let h = too_long_lines xs ys front read long in
-    subst F (sym h.2) (has h.0)
 
 long_bad_first : (at : ℕ) (a b : Option (List ℕ)) (front : List ℕ) → Consumes a b front → IsTooLong 512 front → ((more : List ℕ) → IsBadCluster (front ++ more) at) → BeginsBad at a
 long_bad_first at None b front read long has = tt
@@ -99,25 +80,6 @@ long_first_fault a b front Write read long says = absurd says
 long_first_fault a b front TooManyEvents read long says = absurd says
 
 -- ---- what was read
-
--- what did not decide a line, where nothing is pending afterwards
-pub part_with : (a b : Option (List ℕ)) (pending : List ℕ) → pending ≡ [] → TakesPart 512 a b → TakesPart 512 a (prepend_known pending b)
-part_with a b pending none part = rw (none, prepend-nothing b) part
-
--- a byte after the last event needs a read only where nothing is pending
-pub byte_reads : {S E : Type 0} (left before : S → Option (List ℕ)) (old new : S) (pending pending_new : List ℕ) (byte : ℕ) (result : Result (Option ℕ) E) → result ≡ Ok (Some byte) → ((first : ℕ) → (more : List ℕ) → pending ≡ first ∷ more → (result ≡ Ok (Some first)) × (pending_new ≡ more) × (new ≡ old)) → (pending ≡ [] → Keeps (left old) (before new)) → Consumes (prepend_known pending (left old)) (prepend_known pending_new (left new)) (byte ∷ []) → ReadsOn left before old new 0 pending
-byte_reads left before old new pending pending_new byte result is ready last p =
-    by_byte (TakesByte-next left before old new pending pending_new byte result is ready last p)
-  where
-    by_byte : TakesByte left before old new pending pending_new byte → ReadsOn left before old new 0 pending
-    by_byte (inl q) = inl q.0
-    by_byte (inr q) = inr (record {
-      came = [];
-      piece = byte ∷ pending_new;
-      read = Consumes-keeps (left old) (before new) q.1;
-      last = q.2;
-      open_yet = rw (append-nil pending, q.0) (record { plain = tt; short = omega arith });
-    })
 
 no_bytes : (bytes more : List ℕ) → 0 < length bytes → ¬ ([] ≡ bytes ++ more)
 no_bytes [] more some e = absurd (omega (arith, some))

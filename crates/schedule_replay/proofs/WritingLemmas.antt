@@ -10,7 +10,7 @@ use Rattle.io_core.proofs.Known.{Appends-nothing, Appends-more, AppendsPrefix-mo
 use Rattle.net_model.specs.declared.event.Event.{Event}
 use Rattle.schedule_text.specs.Lines.{line_text}
 use Rattle.schedule_text.specs.Spellings.{first_parts}
-use Rattle.schedule_replay.specs.Replays.{text_of}
+use Rattle.schedule_text.specs.Taken.{text_of}
 use Rattle.schedule_replay.specs.Numbered.{numbered_from, state_after, event_after, numbered_cluster, numbered_events, numbered_lines, numbered_text, event_line}
 use Rattle.schedule_replay.specs.Steps.{Counts, Moves, BreaksOff, WritesOf}
 use Rattle.schedule_replay.specs.declared.fault.ReplayFault.{ReplayFault}

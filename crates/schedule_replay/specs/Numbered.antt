@@ -5,7 +5,7 @@ use Rattle.net_model.specs.declared.event.Event.{Event}
 use Rattle.net_model.specs.declared.event.Event.TheVariants as event
 use Rattle.schedule_text.specs.Lines.{line_text}
 use Rattle.schedule_text.specs.Spellings.{parts_of, first_parts}
-use Rattle.schedule_replay.specs.Replays.{text_of}
+use Rattle.schedule_text.specs.Taken.{text_of}
 
 -- ---- the generator
 

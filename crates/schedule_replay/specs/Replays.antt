@@ -1,9 +1,9 @@
 -- What a replay reads and prints, and how it ends.
-use Rattle.std.specs.Prelude.{◌≡◌, ◌≢◌, ◌⊎◌, ℕ, ◌+◌, ◌<◌, ◌≤◌, List, [], ◌∷◌, ◌++◌, flat_map, ◌==◌, if◌then◌else◌, length, Option, None, Some, Result, Ok, Err, ⊤}
+use Rattle.std.specs.Prelude.{◌≡◌, ◌≢◌, ◌⊎◌, ℕ, ◌+◌, ◌<◌, ◌≤◌, List, [], ◌∷◌, ◌++◌, length, Option, None, Some, Result, Ok, Err, ⊤}
 use Rattle.std.specs.List.{AllByRecursion}
 use Rattle.std.specs.Io.KnownBytes.{Appends}
 use Rattle.io_core.specs.Bytes.{AppendsPrefix}
-use Rattle.io_core.specs.Lines.{lines_of, IsOpen}
+use Rattle.io_core.specs.Lines.{lines_of}
 use Rattle.net_model.specs.declared.cluster.Cluster.{Cluster}
 use Rattle.net_model.specs.declared.event.Event.{Event}
 use Rattle.net_model.specs.declared.outcome.Outcome.{Outcome}
@@ -13,6 +13,7 @@ use Rattle.world_law.specs.OneLog.{one_log}
 use Rattle.world_law.specs.Safety.{IsSafeRun}
 use Rattle.world_law.specs.Soundness.{IsSound}
 use Rattle.world_law.specs.Gains.{HasValidReads, HasNoRepeats}
+use Rattle.schedule_text.specs.Taken.{Gave, ReadsNoFurther, IsReadForOne}
 use Rattle.schedule_text.specs.Outcomes.{printed}
 use Rattle.schedule_replay.specs.Plays.{StandFor}
 use Rattle.schedule_replay.specs.Schedules.{IsSchedule, IsBadNext, IsOutNext}
@@ -44,50 +45,14 @@ HasReason end cluster lines rest = IsFollowed end cluster lines rest × IsAfter 
 
 -- ---- what was read
 
--- the lines, each with its line feed
-abbrev pub text_of : List (List ℕ) → List ℕ
-text_of lines = flat_map (λ line. line ++ 10 ∷ []) lines
-
--- So many bytes may come after these lines and decide nothing, where no line feed is among them: after the last event that is
--- allowed none may.
-abbrev pub room_after : List (List ℕ) → ℕ
-room_after lines = if length lines == 20001 then 0 else 512
-
--- a source gave these lines and after them what decides nothing, and has the rest left
-pub record Gave (bytes : List ℕ) (left : Option (List ℕ)) (lines : List (List ℕ)) : Type 0 where
-  pub part : List ℕ
-  pub rest : List ℕ
-  pub left_is : left ≡ Some rest
-  pub split : bytes ≡ text_of lines ++ (part ++ rest)
-  pub open_yet : IsOpen (room_after lines) part
-
--- Before its last read a source had given some of these lines, and after them what decides nothing. The read gave a piece, and
--- the rest is left.
-pub record ReadsNoFurther (lines : List (List ℕ)) (bytes : List ℕ) (before left : Option (List ℕ)) : Type 0 where
-  pub earlier : List (List ℕ)
-  pub later : List (List ℕ)
-  pub front : lines ≡ earlier ++ later
-  pub part : List ℕ
-  pub piece : List ℕ
-  pub rest : List ℕ
-  pub before_is : before ≡ Some (piece ++ rest)
-  pub left_is : left ≡ Some rest
-  pub split : bytes ≡ text_of earlier ++ (part ++ (piece ++ rest))
-  pub open_yet : IsOpen (room_after earlier) part
-
--- one of these lines needed the last read
-pub record IsReadForOne (lines : List (List ℕ)) (bytes : List ℕ) (before left : Option (List ℕ)) : Type 0 where
-  pub reads : ReadsNoFurther lines bytes before left
-  pub one : 0 < length reads.later
-
 -- What an end leaves of the source. Where a line, the limit or the output decides, it read no further than the piece that
 -- decided.
 abbrev pub Leaves : Result Unit ReplayFault → List (List ℕ) → List ℕ → Option (List ℕ) → Option (List ℕ) → Type 0
 Leaves (Ok _) lines bytes before left = left ≡ Some []
-Leaves (Err Read) lines bytes before left = Gave bytes left lines ⊎ ((left ≡ Some []) × (lines_of bytes ≡ lines))
-Leaves (Err Write) lines bytes before left = IsReadForOne lines bytes before left
-Leaves (Err Memory) lines bytes before left = (left ≡ Some bytes) ⊎ (ReadsNoFurther lines bytes before left ⊎ (left ≡ Some []))
-Leaves (Err _) lines bytes before left = ReadsNoFurther lines bytes before left
+Leaves (Err Read) lines bytes before left = Gave 20001 bytes left lines ⊎ ((left ≡ Some []) × (lines_of bytes ≡ lines))
+Leaves (Err Write) lines bytes before left = IsReadForOne 20001 lines bytes before left
+Leaves (Err Memory) lines bytes before left = (left ≡ Some bytes) ⊎ (ReadsNoFurther 20001 lines bytes before left ⊎ (left ≡ Some []))
+Leaves (Err _) lines bytes before left = ReadsNoFurther 20001 lines bytes before left
 
 -- the lines that were replayed are the first ones of the source, and what follows them is the reason of the end
 pub record Reads (end : Result Unit ReplayFault) (cluster : Cluster) (bytes : List ℕ) (before left : Option (List ℕ)) (lines : List (List ℕ)) : Type 0 where

@@ -1,6 +1,6 @@
 -- The parts of a replay: its lines one after the other, and what waits to be written.
-use Rattle.std.specs.Prelude.{◌≡◌, ◌≢◌, ◌⊎◌, ℕ, ◌≤◌, length, List, [], ◌∷◌, ◌++◌, take, Option, None, Some, Result, Ok, Err, ⊤}
-use Rattle.std.specs.Io.KnownBytes.{Appends, IsAtEnd, Keeps}
+use Rattle.std.specs.Prelude.{◌≡◌, ◌⊎◌, ℕ, ◌≤◌, length, List, [], ◌∷◌, ◌++◌, take, Option, None, Some, Result, Ok, Err, ⊤}
+use Rattle.std.specs.Io.KnownBytes.{Appends, Keeps}
 use Rattle.io_core.specs.Bytes.{AppendsPrefix}
 use Rattle.io_core.specs.Lines.{TakesLine, TakesPart, IsReadWhileOpen, lines_of}
 use Rattle.io_core.specs.Causes.{Rose}
@@ -11,6 +11,7 @@ use Rattle.world_law.specs.Worlds.{WorldState, start}
 use Rattle.world_law.specs.Runs.{IsRunOnFiles, last_world}
 use Rattle.schedule_text.specs.Spellings.{IsClusterOutOfRange, IsEventOutOfRange}
 use Rattle.schedule_text.specs.Places.{IsBadCluster, IsBadEvent}
+use Rattle.schedule_text.specs.Taken.{TakesLines, NextHas, IsOver, IsLeft, IsReadForOne}
 use Rattle.schedule_text.specs.Outcomes.{printed, outcome_line}
 use Rattle.schedule_replay.specs.Schedules.{IsFirstLine, IsFurtherLine, IsSchedule}
 use Rattle.schedule_replay.specs.Plays.{Leads, StandFor}
@@ -18,7 +19,7 @@ use Rattle.schedule_replay.specs.declared.fault.ReplayFault.{ReplayFault}
 use Rattle.schedule_replay.specs.declared.fault.ReplayFault.TheVariants.{Read, Write, Line, Range, TooManyEvents, Memory}
 use Rattle.schedule_replay.specs.declared.events.Turned.{Turned}
 use Rattle.schedule_replay.specs.declared.events.Turned.TheVariants.{More, Over}
-use Rattle.schedule_replay.specs.Replays.{ReadsWhere, IsAfter, IsReadForOne, IsBrokenBy, text_of}
+use Rattle.schedule_replay.specs.Replays.{ReadsWhere, IsAfter, IsBrokenBy}
 
 -- ---- what a line says
 
@@ -44,21 +45,6 @@ pub record TakesEvent (left_old left_new : Option (List ℕ)) (cluster : Cluster
   pub line : List ℕ
   pub read : TakesLine left_old left_new line
   pub further : IsFurtherLine cluster line event
-
--- the first of these lines has P
-abbrev pub FirstHas : (List ℕ → Type 0) → List (List ℕ) → Type 0
-FirstHas P [] = ⊥
-FirstHas P (line ∷ rest) = P line
-
--- the next line of known bytes has P
-abbrev pub NextHas : (List ℕ → Type 0) → Option (List ℕ) → Type 0
-NextHas P None = ⊤
-NextHas P (Some bytes) = FirstHas P (lines_of bytes)
-
--- no byte was left, and none is
-pub record IsOver (left_old left_new : Option (List ℕ)) : Type 0 where
-  pub none : IsAtEnd left_old
-  pub same : Keeps left_old left_new
 
 -- what the next line is, which has this number
 abbrev pub NextOf : Option (List ℕ) → Option (List ℕ) → Cluster → ℕ → Result (Option AnEvent) ReplayFault → Type 0
@@ -94,21 +80,12 @@ FirstOf left_old left_new (Err Read) = TakesPart 512 left_old left_new
 FirstOf left_old left_new (Err Memory) = ⊤
 FirstOf left_old left_new (Err _) = ⊥
 
--- some byte is left
-abbrev pub IsLeft : Option (List ℕ) → Type 0
-IsLeft None = ⊤
-IsLeft (Some bytes) = bytes ≢ []
-
 -- what comes after the last event that is allowed
 abbrev pub LastOf : Option (List ℕ) → Option (List ℕ) → Result Unit ReplayFault → Type 0
 LastOf left_old left_new (Ok _) = IsOver left_old left_new
 LastOf left_old left_new (Err TooManyEvents) = IsLeft left_old
 LastOf left_old left_new (Err Read) = Keeps left_old left_new
 LastOf left_old left_new (Err _) = ⊥
-
--- no read was made, or the last one while nothing that had come decided the next line
-abbrev pub ReadsOn : {S : Type 0} → (left before : S → Option (List ℕ)) → S → S → ℕ → List ℕ → Type 0
-ReadsOn left before old new limit pending = (new ≡ old) ⊎ IsReadWhileOpen limit pending (left old) (before new) (left new)
 
 -- the count of faults rose where this is so, and else it is what it was
 pub record Counts (before now : ℕ) (fault : Type 0) : Type 0 where
@@ -202,26 +179,10 @@ BeginsOf shows cluster here_old here left_old before left (Err _) = ⊥
 
 -- ---- between two lines
 
--- these bytes are whole lines, whatever follows them
-pub record AreWhole (given : List ℕ) (lines : List (List ℕ)) : Type 0 where
-  pub text : given ≡ text_of lines
-  pub all : (more : List ℕ) → lines_of (given ++ more) ≡ lines ++ lines_of more
-
--- of these bytes the lines were taken, and the rest is left: each line was ended, or nothing is left
-abbrev pub AreTaken : List ℕ → List ℕ → List (List ℕ) → Type 0
-AreTaken bytes rest lines =
-    ((given : List ℕ) × (bytes ≡ given ++ rest) × AreWhole given lines) ⊎ ((rest ≡ []) × (lines_of bytes ≡ lines))
-
--- known bytes lose these lines from their front
-abbrev pub TakesLines : Option (List ℕ) → Option (List ℕ) → List (List ℕ) → Type 0
-TakesLines None new lines = ⊤
-TakesLines (Some bytes) None lines = ⊥
-TakesLines (Some bytes) (Some rest) lines = AreTaken bytes rest lines
-
 -- one of these lines needed the last read of a source that tells
 abbrev pub NeedsLastRead : List (List ℕ) → Option (List ℕ) → Option (List ℕ) → Option (List ℕ) → Type 0
 NeedsLastRead lines None before left = ⊤
-NeedsLastRead lines (Some bytes) before left = IsReadForOne lines bytes before left
+NeedsLastRead lines (Some bytes) before left = IsReadForOne 20001 lines bytes before left
 
 -- Where a replay stands after so many lines: the lines so far are a schedule, its events and outcomes a run that ended
 -- here, and what was written and what waits are the text so far. here is what is left beyond what is pending.

@@ -2,9 +2,10 @@ ghost use Rattle.std.specs.Prelude.{◌≡◌, ◌⊎◌, ◌<◌, ◌≤◌, �
 ghost use Rattle.net_model.specs.Events.{IsInRange};
 ghost use Rattle.std.specs.Io.KnownBytes.{prepend_known};
 ghost use Rattle.io_core.specs.Causes.{Rose};
+ghost use Rattle.schedule_text.specs.Taken.{ReadsOn};
 ghost use Rattle.schedule_replay.specs.Replays.{PrintsRun, ComesExactly};
 ghost use Rattle.schedule_replay.specs.Faults.{IsBroken};
-ghost use Rattle.schedule_replay.specs.Steps.{HappensOf, TurnOf, WritesOf, ReadsOn, Counts, EndsOf, BeginsOf, Going, Reaches};
+ghost use Rattle.schedule_replay.specs.Steps.{HappensOf, TurnOf, WritesOf, Counts, EndsOf, BeginsOf, Going, Reaches};
 
 use crate::ReplayFault;
 use crate::input::{Input, next_event, read_first, read_last};

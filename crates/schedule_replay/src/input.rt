@@ -1,7 +1,8 @@
 ghost use Rattle.std.specs.Prelude.{◌≡◌, ◌≢◌, [], Contains};
 ghost use Rattle.std.specs.Io.KnownBytes.{prepend_known};
 ghost use Rattle.io_core.specs.Lines.{IsReadWhileOpen};
-ghost use Rattle.schedule_replay.specs.Steps.{SaysEvent, SaysCluster, NextOf, FirstOf, LastOf, ReadsOn, Counts};
+ghost use Rattle.schedule_text.specs.Taken.{ReadsOn};
+ghost use Rattle.schedule_replay.specs.Steps.{SaysEvent, SaysCluster, NextOf, FirstOf, LastOf, Counts};
 
 use crate::ReplayFault;
 use io_core::{Fault, Pending, ReadLine, Source, next_byte, next_line};

@@ -13,3 +13,4 @@ pub mod TableLemmas
 pub mod RangeLemmas
 pub mod LawLemmas
 pub mod PrintLemmas
+pub mod Taken

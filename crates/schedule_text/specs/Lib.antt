@@ -2,6 +2,7 @@ pub mod Words
 pub mod Lists
 pub mod Forms
 pub mod Lines
+pub mod Taken
 pub mod Fronts
 pub mod Spellings
 pub mod Places

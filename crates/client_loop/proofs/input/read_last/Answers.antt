@@ -1,5 +1,5 @@
 use Rattle.std.proofs.Common.{rules}
-use Rattle.client_loop.proofs.NextLines.{byte_reads}
+use Rattle.schedule_text.proofs.Taken.{byte_reads}
 use Rattle.client_loop.proofs.input.read_last.Goals as goal
 
 pub returns-in-Ok-Some-clause-reads : goal.returns-in-Ok-Some-clause-reads

@@ -1,5 +1,6 @@
 use Rattle.std.proofs.Common.{rules, refl, ap, Err}
-use Rattle.client_loop.proofs.Going.{line_does, never_read, part_kept}
+use Rattle.schedule_text.proofs.Taken.{part_kept}
+use Rattle.client_loop.proofs.Going.{line_does, never_read}
 use Rattle.client_loop.proofs.script.take_line.Goals as goal
 
 pub returns-in-Ok-Line-clause-does : goal.returns-in-Ok-Line-clause-does

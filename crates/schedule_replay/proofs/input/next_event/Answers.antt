@@ -2,7 +2,8 @@ use Rattle.std.proofs.Common.{◌≡◌, rules, Err}
 use Rattle.io_core.proofs.LineLemmas.{TakesPart-open}
 use Rattle.io_core.specs.declared.fault.Fault.TheVariants.{Failed}
 use Rattle.std.specs.Io.KnownBytes.{prepend_known}
-use Rattle.schedule_replay.proofs.Reading.{line_fault, long_fault, part_with}
+use Rattle.schedule_text.proofs.Taken.{part_kept}
+use Rattle.schedule_replay.proofs.Reading.{line_fault, long_fault}
 use Rattle.schedule_replay.proofs.input.next_event.Goals as goal
 
 pub returns-in-Err-clause-next : goal.returns-in-Err-clause-next
@@ -17,4 +18,4 @@ pub returns-in-Err-Failed-clause-next : goal.returns-in-Err-Failed-clause-next
 returns-in-Err-Failed-clause-next g c =
     let is : c.next_line.result ≡ Err Failed = cc in
     let failed = c.next_line.ensures.failed is in
-    part_with _ _ c.next_line.new.pending failed.0 (TakesPart-open _ _ _ _ failed.1)
+    part_kept 512 _ _ c.next_line.new.pending failed.0 (TakesPart-open _ _ _ _ failed.1)
