@@ -1,5 +1,5 @@
 -- What a client does with a line of its script.
-use Rattle.std.specs.Prelude.{◌≡◌, ◌≢◌, ◌⊎◌, ℕ, ◌+◌, Bool, true, false, List, ◌++◌, Option, Some, None, Ok, Err}
+use Rattle.std.specs.Prelude.{◌≡◌, ◌≢◌, ◌⊎◌, ◌<◌, ℕ, ◌+◌, Bool, true, false, List, ◌++◌, Option, Some, None, Ok, Err}
 use Rattle.io_core.specs.Links.{Exchange}
 use Rattle.proto_model.specs.declared.refusal.BuildFault.{BuildFault}
 use Rattle.proto_model.specs.declared.client_message.ToServer.{ToServer}
@@ -86,7 +86,8 @@ pub record IsSynced (port : ℕ) (a b : Seat) (line : List ℕ) : Type 0 where
   pub count : ℕ
   pub before : Seat
   pub moved : AreMoves port a count before
-  pub ends : IsLastAsk port before b line
+  pub ends :
+      ((count < 100000) × IsLastAsk port before b line)
       ⊎ ((count ≡ 100000) × (b ≡ before) × (line ≡ more_line before.client.mark))
 
 -- an answer that neither ends the asks nor moves the client, or none
@@ -98,11 +99,14 @@ StopsBy port a b Peer = IsAsk port (next_ask a.client) a.past b.past (Err Peer)
 StopsBy port a b Memory = IsTried port (of.ToServer (next_ask a.client)) a.past b.past
 StopsBy port a b _ = ⊥
 
+-- moves, and then an ask that ends the script; or there is no memory for the line after as many moves as are made at most
 pub record IsUnsynced (port : ℕ) (a b : Seat) (end : End) : Type 0 where
   pub count : ℕ
   pub before : Seat
   pub moved : AreMoves port a count before
-  pub stops : StopsBy port before b end
+  pub stops :
+      ((count < 100000) × StopsBy port before b end)
+      ⊎ ((count ≡ 100000) × (b ≡ before) × (end ≡ Memory))
 
 -- How an answer to an ask was taken: it ends the asks, and the line says why; it moves the client; or it does neither.
 pub record IsTakenSo (answer : FromServer) (was : Taken) (cl cl' : ClientState) (old new : List ℕ) : Type 0 where

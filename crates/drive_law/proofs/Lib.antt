@@ -3,3 +3,4 @@ pub mod Quiet
 pub mod Young
 pub mod NoQuorum
 pub mod Recovered
+pub mod Winning

@@ -3,3 +3,4 @@ pub mod Printing
 pub mod Turning
 pub mod RegisterLemmas
 pub mod Serves
+pub mod Counted

@@ -1,5 +1,5 @@
 -- How a command that serves ends: its status, and what it has printed then.
-use Rattle.std.specs.Prelude.{◌≡◌, ◌⊎◌, ℕ, List, [], ◌∷◌, ◌++◌, codes, decimal, ⊤, Option}
+use Rattle.std.specs.Prelude.{◌≡◌, ◌⊎◌, ◌≤◌, ℕ, List, [], ◌∷◌, ◌++◌, codes, decimal, ⊤, Option}
 use Rattle.std.specs.Io.KnownBytes.{Appends}
 use Rattle.io_core.specs.Bytes.{AppendsPrefix}
 use Rattle.io_core.specs.Causes.{Rose}
@@ -44,11 +44,15 @@ abbrev pub serving_text : ℕ → End → List ℕ
 serving_text port Unheard = last_line Unheard
 serving_text port end = first_line port ++ last_line end
 
+-- the output failed, or there was no memory
+abbrev pub IsBroken : ℕ → Type 0
+IsBroken status = (status ≡ 11) ⊎ (status ≡ 20)
+
 -- the text is printed, and the status is that of the end; or the output broke off, or there was no memory
 abbrev pub Prints : Option (List ℕ) → Option (List ℕ) → List ℕ → ℕ → ℕ → Type 0
 Prints old new text due status =
     ((status ≡ due) × Appends old new text)
-    ⊎ (((status ≡ 11) ⊎ (status ≡ 20)) × AppendsPrefix old new text)
+    ⊎ (IsBroken status × AppendsPrefix old new text)
 
 -- the output failed, or there was no memory
 abbrev pub IsBrokenEnd : End → Type 0
@@ -109,21 +113,25 @@ IsBlind (Damaged file at) = ⊤
 IsBlind Answer = ⊤
 IsBlind _ = ⊥
 
+-- an end at which the port failed
+abbrev pub IsPortEnd : End → Type 0
+IsPortEnd Unheard = ⊤
+IsPortEnd Peer = ⊤
+IsPortEnd _ = ⊥
+
+-- the count of faults rose where this is so, and else it is what it was
+pub record Counts (before now : ℕ) (fault : Type 0) : Type 0 where
+  pub later : before ≤ now
+  pub rose : fault → Rose before now
+  pub same : ¬ fault → now ≡ before
+
 -- Each end by its cause: the counts of faults of the port and of what serves, before and after; what is told by an end
 -- of its own, and what is not told at one that is blind.
-abbrev pub HasItsCause : (port port' server server' : ℕ) (own blind : End → Type 0) → End → Type 0
-HasItsCause port port' server server' own blind Bye = ⊤
-HasItsCause port port' server server' own blind Port = ⊤
-HasItsCause port port' server server' own blind Turns = ⊤
-HasItsCause port port' server server' own blind Unheard = Rose port port'
-HasItsCause port port' server server' own blind Peer = Rose port port'
-HasItsCause port port' server server' own blind Disk = Rose server server'
-HasItsCause port port' server server' own blind (Damaged file at) = blind (Damaged file at)
-HasItsCause port port' server server' own blind (TakenOver session) = own (TakenOver session)
-HasItsCause port port' server server' own blind Answer = blind Answer
-HasItsCause port port' server server' own blind Full = own Full
-HasItsCause port port' server server' own blind WriteFault = ⊤
-HasItsCause port port' server server' own blind Memory = ⊤
+pub record HasItsCause (port port' server server' : ℕ) (own blind : End → Type 0) (end : End) : Type 0 where
+  pub peer : Counts port port' (IsPortEnd end)
+  pub disk : Counts server server' (end ≡ Disk)
+  pub told : IsOwn end → own end
+  pub hidden : IsBlind end → blind end
 
 -- the ends of a register that gives no answer
 abbrev pub IsRegisterEnd : End → Type 0

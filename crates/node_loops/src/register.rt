@@ -1,4 +1,4 @@
-ghost use Rattle.std.specs.Prelude.{⊤, ◌≡◌, ◌≤◌, ◌<◌, ◌⊎◌, ◌+◌, ℕ, List, Bool, true, false, None, Some, IfOk, IfErr, IsOk, OnOk, Err, IsErrOf};
+ghost use Rattle.std.specs.Prelude.{⊤, ◌≡◌, ◌<◌, ◌⊎◌, ◌+◌, ℕ, List, Bool, true, false, None, Some, IfOk, IfErr, IsOk, OnOk, Err, IsErrOf};
 ghost use Rattle.tx_model.specs.Spelling.{IsCount};
 ghost use Rattle.io_core.specs.Causes.{Rose};
 ghost use Rattle.disk_model.specs.File.{IsImage};
@@ -11,7 +11,7 @@ ghost use Rattle.wire_codec.specs.Spelling.{IsValidMessage, IsValidToRegister};
 ghost use Rattle.wire_codec.specs.declared.message.ToRegister.TheVariants as to;
 ghost use Rattle.node_loops.specs.declared.end.End.{End as EndValue};
 ghost use Rattle.node_loops.specs.declared.requests.Asked.TheVariants as asks;
-ghost use Rattle.node_loops.specs.Ends.{status_of, serving_text, Prints, HasItsCause, IsRegisterEnd, IsOwn, IsBlind};
+ghost use Rattle.node_loops.specs.Ends.{status_of, serving_text, Prints, IsBroken, Counts, HasItsCause, IsRegisterEnd, IsOwn, IsBlind};
 ghost use Rattle.node_loops.specs.Serving.{desk, Runs};
 ghost use Rattle.node_loops.specs.Storage.{goes_on};
 ghost use Rattle.node_loops.specs.Registers.{IsRegisterReply, IsRegisterFault, RegisterHides, cas_message};
@@ -104,8 +104,7 @@ fn reply_to_read<G: KeptRegister>(register: &mut G) -> Result<Message, End>
     ensures failed { IfErr result (λ end. IsRegisterFault G.told G.stands G.leaves
         (asks.Register to.Read) end register.old register.new) }
     ensures ends { IfErr result IsRegisterEnd }
-    ensures later { G.faults register.old ≤ G.faults register.new }
-    ensures disk { result ≡ Err End.Disk → Rose (G.faults register.old) (G.faults register.new) }
+    ensures disk { Counts (G.faults register.old) (G.faults register.new) (result ≡ Err End.Disk) }
     ensures blind { IsOk result → G.told register.new ≡ None → G.told register.old ≡ None }
     ensures is_blind { IfErr result (λ end. IsBlind end → RegisterHides (G.told register.old) end) }
 {
@@ -126,8 +125,7 @@ fn reply_to_cas<G: KeptRegister>(register: &mut G, from: u64) -> Result<Message,
     ensures failed { IfErr result (λ end. IsRegisterFault G.told G.stands G.leaves
         (asks.Register (to.Cas from)) end register.old register.new) }
     ensures ends { IfErr result IsRegisterEnd }
-    ensures later { G.faults register.old ≤ G.faults register.new }
-    ensures disk { result ≡ Err End.Disk → Rose (G.faults register.old) (G.faults register.new) }
+    ensures disk { Counts (G.faults register.old) (G.faults register.new) (result ≡ Err End.Disk) }
     ensures blind { IsOk result → G.told register.new ≡ None → G.told register.old ≡ None }
     ensures is_blind { IfErr result (λ end. IsBlind end → RegisterHides (G.told register.old) end) }
 {
@@ -189,11 +187,13 @@ pub fn serve_register<G: KeptRegister, P: Port, W: Sink>(
         (G.faults register.old) (G.faults register.new)
         (λ end. ⊥) (RegisterHides (G.told register.old)) end }
 
-    // A fault is told only where it was counted.
+    // A fault is told only where it was counted, and is told where it was, unless the output or memory failed.
     ensures write { result ≡ 11 → Rose (W.faults sink.old) (W.faults sink.new) }
-    ensures told { W.faults sink.old < W.faults sink.new → result ≡ 11 }
     ensures disk { result ≡ 12 → Rose (G.faults register.old) (G.faults register.new) }
     ensures peer { result ≡ 13 → Rose (P.faults port.old) (P.faults port.new) }
+    ensures told { W.faults sink.old < W.faults sink.new → result ≡ 11 }
+    ensures disk_told { G.faults register.old < G.faults register.new → (result ≡ 12) ⊎ IsBroken result }
+    ensures peer_told { P.faults port.old < P.faults port.new → (result ≡ 13) ⊎ IsBroken result }
     ensures answer { result ≡ 19 → G.told register.old ≡ None }
     ensures others { (result ≡ 15) ⊎ ((result ≡ 16) ⊎ (result ≡ 21)) → ⊥ }
 {

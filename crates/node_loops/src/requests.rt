@@ -1,8 +1,7 @@
-ghost use Rattle.std.specs.Prelude.{◌≡◌, ◌≤◌, ◌<◌, ◌++◌, [], ◌∷◌, Bool, IfOk, IfErr, OnOk, OnErr, Err, IfSome, length};
-ghost use Rattle.io_core.specs.Causes.{Rose};
+ghost use Rattle.std.specs.Prelude.{◌≡◌, ◌<◌, ◌++◌, [], ◌∷◌, Bool, IfOk, IfErr, OnOk, OnErr, Err, IfSome, length};
 ghost use Rattle.io_core.specs.Ports.{Answered};
 ghost use Rattle.wire_codec.specs.Spelling.{IsValidMessage, message_frame};
-ghost use Rattle.node_loops.specs.Ends.{IsRequestEnd};
+ghost use Rattle.node_loops.specs.Ends.{IsRequestEnd, Counts};
 ghost use Rattle.node_loops.specs.Requests.{Reads, Asks, asked_of, IsValidAsked, is_bye, Takes, IsUntaken};
 
 use crate::End;
@@ -102,9 +101,8 @@ pub fn next_request<P: Port>(alloc: Global, port: &mut P, room: &mut [u8]) -> Re
         IsUntaken (P.coming port.old) (P.coming port.new) end) }
     ensures answers { P.tells → P.answers port.new ≡ P.answers port.old }
     ensures room { length room.new ≡ length room.old }
-    ensures later { P.faults port.old ≤ P.faults port.new }
     ensures ends { IfErr result IsRequestEnd }
-    ensures peer { result ≡ Err End.Peer → Rose (P.faults port.old) (P.faults port.new) }
+    ensures peer { Counts (P.faults port.old) (P.faults port.new) (result ≡ Err End.Peer) }
 {
     // So a request that is longer than the room is no message.
     frames_are_short();

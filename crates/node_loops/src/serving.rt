@@ -1,10 +1,9 @@
-ghost use Rattle.std.specs.Prelude.{◌≡◌, ◌≤◌, ℕ, Option, Err, IfOk, IfErr, IfSome, IsOk};
-ghost use Rattle.io_core.specs.Causes.{Rose};
+ghost use Rattle.std.specs.Prelude.{◌≡◌, ℕ, Option, Err, IfOk, IfErr, IfSome, IsOk};
 ghost use Rattle.wire_codec.specs.Spelling.{IsValidMessage};
 ghost use Rattle.wire_codec.specs.declared.message.Message.{Message as MessageValue};
 ghost use Rattle.node_loops.specs.declared.requests.Asked.{Asked as AskedValue};
 ghost use Rattle.node_loops.specs.declared.end.End.{End as EndValue};
-ghost use Rattle.node_loops.specs.Ends.{IsFailing, IsClosing, IsOwn, IsBlind};
+ghost use Rattle.node_loops.specs.Ends.{IsFailing, IsClosing, IsOwn, IsBlind, Counts};
 ghost use Rattle.node_loops.specs.Requests.{IsValidAsked};
 ghost use Rattle.node_loops.specs.Serving.{Replying, Failing};
 
@@ -45,8 +44,7 @@ pub trait Serving<M> {
 
         // Each end by its cause.
         ensures ends { IfErr result IsFailing }
-        ensures later { faults self.old ≤ faults self.new }
-        ensures disk { result ≡ Err End.Disk → Rose (faults self.old) (faults self.new) }
+        ensures disk { Counts (faults self.old) (faults self.new) (result ≡ Err End.Disk) }
         ensures blind { IsOk result → (end : EndValue) → blind self.new end → blind self.old end }
         ensures is_blind { IfErr result (λ end. IsBlind end → blind self.old end) }
         ensures own { IfErr result (λ end. IsOwn end → own self.new end) };

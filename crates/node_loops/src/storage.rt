@@ -1,10 +1,10 @@
-ghost use Rattle.std.specs.Prelude.{◌≡◌, ◌≤◌, ◌<◌, ◌^◌, ◌-◌, ◌⊎◌, ℕ, Bool, true, false, None, Some, IfOk, IfErr, IsOk, OnOk, Err};
+ghost use Rattle.std.specs.Prelude.{◌≡◌, ◌<◌, ◌^◌, ◌-◌, ◌⊎◌, ℕ, Bool, true, false, None, Some, IfOk, IfErr, IsOk, OnOk, Err};
 ghost use Rattle.io_core.specs.Causes.{Rose};
 ghost use Rattle.proto_model.specs.Validity.{IsValidToNode};
 ghost use Rattle.wire_codec.specs.Spelling.{IsValidMessage};
 ghost use Rattle.node_loops.specs.declared.end.End.{End as EndValue};
 ghost use Rattle.node_loops.specs.declared.requests.Asked.TheVariants as asks;
-ghost use Rattle.node_loops.specs.Ends.{status_of, serving_text, Prints, HasItsCause, IsFailing, IsOwn, IsBlind};
+ghost use Rattle.node_loops.specs.Ends.{status_of, serving_text, Prints, IsBroken, Counts, HasItsCause, IsFailing, IsOwn, IsBlind};
 ghost use Rattle.node_loops.specs.Serving.{desk, Runs};
 ghost use Rattle.node_loops.specs.Storage.{IsNodeReply, IsNodeFault, goes_on, NodeTells, NodeHides};
 
@@ -24,8 +24,7 @@ fn step_of<R: Replica>(node: &mut R, m: &ToNode) -> Result<Message, End>
     ensures failed { IfErr result (λ end. IsNodeFault R.tells R.state R.files R.sure R.shut R.shown
         (asks.Node m.now) end node.old node.new) }
     ensures ends { IfErr result IsFailing }
-    ensures later { R.faults node.old ≤ R.faults node.new }
-    ensures disk { result ≡ Err End.Disk → Rose (R.faults node.old) (R.faults node.new) }
+    ensures disk { Counts (R.faults node.old) (R.faults node.new) (result ≡ Err End.Disk) }
     ensures blind { IfErr result (λ end. IsBlind end → NodeHides R.tells end) }
     ensures own { IfErr result (λ end. IsOwn end →
         NodeTells R.tells (R.shown node.new).file end) }
@@ -90,11 +89,13 @@ pub fn serve_storage<R: Replica, P: Port, W: Sink>(
         (R.faults node.old) (R.faults node.new)
         (NodeTells R.tells (R.shown node.new).file) (NodeHides R.tells) end }
 
-    // A fault is told only where it was counted.
+    // A fault is told only where it was counted, and is told where it was, unless the output or memory failed.
     ensures write { result ≡ 11 → Rose (W.faults sink.old) (W.faults sink.new) }
-    ensures told { W.faults sink.old < W.faults sink.new → result ≡ 11 }
     ensures disk { result ≡ 12 → Rose (R.faults node.old) (R.faults node.new) }
     ensures peer { result ≡ 13 → Rose (P.faults port.old) (P.faults port.new) }
+    ensures told { W.faults sink.old < W.faults sink.new → result ≡ 11 }
+    ensures disk_told { R.faults node.old < R.faults node.new → (result ≡ 12) ⊎ IsBroken result }
+    ensures peer_told { P.faults port.old < P.faults port.new → (result ≡ 13) ⊎ IsBroken result }
     ensures damaged { result ≡ 15 → R.tells → ⊥ }
     ensures full { result ≡ 21 → R.tells → (R.shown node.new).file ≡ 2 ^ 32 - 1 }
     ensures others { (result ≡ 16) ⊎ (result ≡ 19) → ⊥ }

@@ -3,7 +3,7 @@ ghost use Rattle.std.specs.Io.KnownBytes.{Appends};
 ghost use Rattle.io_core.specs.Causes.{Rose};
 ghost use Rattle.wire_codec.specs.Spelling.{IsValidMessage};
 ghost use Rattle.node_loops.specs.declared.end.End.{End as EndValue};
-ghost use Rattle.node_loops.specs.Ends.{status_of, serving_text, Prints, HasBegun, IsTurnsEnd, IsEarlyEnd, IsClosing, HasItsCause};
+ghost use Rattle.node_loops.specs.Ends.{status_of, serving_text, Prints, IsBroken, HasBegun, IsTurnsEnd, IsEarlyEnd, IsClosing, HasItsCause};
 ghost use Rattle.node_loops.specs.Requests.{IsValidAsked};
 ghost use Rattle.node_loops.specs.Serving.{desk, GoesOn, EndsBy, Serves, Runs, end_after};
 
@@ -47,8 +47,8 @@ fn turn<M, S: Serving<M>, P: Port>(
     ensures works { result ≡ None → S.works served.new }
     ensures room { length room.new ≡ length room.old }
     ensures ends { IfSome result IsTurnsEnd }
-    ensures later { S.faults served.old ≤ S.faults served.new }
-    ensures port_later { P.faults port.old ≤ P.faults port.new }
+    ensures same { result ≡ None → S.faults served.new ≡ S.faults served.old }
+    ensures port_same { result ≡ None → P.faults port.new ≡ P.faults port.old }
     ensures blind { result ≡ None → (end : EndValue) → S.blind served.new end → S.blind served.old end }
     ensures cause { IfSome result (HasItsCause (P.faults port.old) (P.faults port.new)
         (S.faults served.old) (S.faults served.new) (S.own served.new) (S.blind served.old)) }
@@ -80,8 +80,6 @@ pub fn take_turns<M, S: Serving<M>, P: Port>(
         (desk (P.coming port.old) (P.answers port.old) served.old)
         (desk (P.coming port.new) (P.answers port.new) served.new) result }
     ensures ends { IsTurnsEnd result }
-    ensures later { S.faults served.old ≤ S.faults served.new }
-    ensures port_later { P.faults port.old ≤ P.faults port.new }
     ensures cause { HasItsCause (P.faults port.old) (P.faults port.new)
         (S.faults served.old) (S.faults served.new) (S.own served.new) (S.blind served.old) result }
 {
@@ -144,9 +142,13 @@ pub fn serve<M, S: Serving<M>, P: Port, W: Sink>(
         × HasItsCause (P.faults port.old) (P.faults port.new)
         (S.faults served.old) (S.faults served.new) (S.own served.new) (S.blind served.old) end }
 
-    // The output is told to have failed exactly where its count rose.
+    // A fault is told only where it was counted, and is told where it was, unless the output or memory failed.
     ensures write { result ≡ 11 → Rose (W.faults sink.old) (W.faults sink.new) }
+    ensures disk { result ≡ 12 → Rose (S.faults served.old) (S.faults served.new) }
+    ensures peer { result ≡ 13 → Rose (P.faults port.old) (P.faults port.new) }
     ensures told { W.faults sink.old < W.faults sink.new → result ≡ 11 }
+    ensures disk_told { S.faults served.old < S.faults served.new → (result ≡ 12) ⊎ IsBroken result }
+    ensures peer_told { P.faults port.old < P.faults port.new → (result ≡ 13) ⊎ IsBroken result }
 {
     let end = listen_and_serve::<M, S, P, W>(alloc, served, port, number, sink);
     finish(alloc, sink, end)

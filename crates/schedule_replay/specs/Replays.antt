@@ -74,7 +74,7 @@ pub record IsReliable (worlds : List WorldState) (outcomes : List Outcome) : Typ
   pub safe : IsSafeRun worlds
   -- what a client read of the keys that its transaction names still stands just before the transaction's place
   pub reads : AllByRecursion (λ (w : WorldState). HasValidReads (one_log w)) worlds
-  -- a request that holds a write lock stands at one place at most
+  -- two places with one client's request hold one transaction, which has no write lock
   pub repeats : AllByRecursion (λ (w : WorldState). HasNoRepeats (one_log w)) worlds
   pub sound : IsSound worlds outcomes
 

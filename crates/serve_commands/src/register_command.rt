@@ -3,7 +3,7 @@ ghost use Rattle.io_core.specs.Causes.{Rose};
 ghost use Rattle.disk_model.specs.File.{IsImage};
 ghost use Rattle.session_register.specs.Values.{StandsFor};
 ghost use Rattle.node_loops.specs.declared.end.End.{End as EndValue};
-ghost use Rattle.node_loops.specs.Ends.{status_of, serving_text, Prints};
+ghost use Rattle.node_loops.specs.Ends.{status_of, serving_text, Prints, IsBroken};
 ghost use Rattle.node_loops.specs.Serving.{desk, Runs};
 ghost use Rattle.node_loops.specs.Storage.{goes_on};
 ghost use Rattle.serve_commands.specs.Registers.{Suiting, Breaking, GoesFrom, ServesRegister};
@@ -41,7 +41,11 @@ fn serve_kept<D: Disk, P: Port, W: Sink>(
     ensures write { result.1 ≡ 11 → Rose (W.faults sink.old) (W.faults sink.new) }
     ensures told { W.faults sink.old < W.faults sink.new → result.1 ≡ 11 }
     ensures broken { result.1 ≡ 12 → Rose (D.faults register.disk) (D.faults result.0) }
+    ensures broken_told { D.faults register.disk < D.faults result.0 →
+        (result.1 ≡ 12) ⊎ IsBroken result.1 }
     ensures peer { result.1 ≡ 13 → Rose (P.faults port.old) (P.faults port.new) }
+    ensures peer_told { P.faults port.old < P.faults port.new →
+        (result.1 ≡ 13) ⊎ IsBroken result.1 }
     ensures others { (result.1 ≡ 16) ⊎ ((result.1 ≡ 19) ⊎ (result.1 ≡ 21)) → ⊥ }
 {
     let mut working = Working {
@@ -65,7 +69,10 @@ fn serve_disk<D: Disk, P: Port, W: Sink>(
     ensures write { result.1 ≡ 11 → Rose (W.faults sink.old) (W.faults sink.new) }
     ensures told { W.faults sink.old < W.faults sink.new → result.1 ≡ 11 }
     ensures broken { result.1 ≡ 12 → Rose (D.faults disk) (D.faults result.0) }
+    ensures broken_told { D.faults disk < D.faults result.0 → (result.1 ≡ 12) ⊎ IsBroken result.1 }
     ensures peer { result.1 ≡ 13 → Rose (P.faults port.old) (P.faults port.new) }
+    ensures peer_told { P.faults port.old < P.faults port.new →
+        (result.1 ≡ 13) ⊎ IsBroken result.1 }
     ensures others { (result.1 ≡ 16) ⊎ ((result.1 ≡ 19) ⊎ (result.1 ≡ 21)) → ⊥ }
 {
     match DiskRegister::load(disk) {
@@ -90,8 +97,12 @@ fn serve_front<'a, D: Disk, P: Port, W: Sink>(
     ensures told { W.faults front.entry.sink.now < W.faults result.1.1.sink.now →
         result.1.0 ≡ 11 }
     ensures broken { result.1.0 ≡ 12 → Rose (D.faults disk) (D.faults result.0) }
+    ensures broken_told { D.faults disk < D.faults result.0 →
+        (result.1.0 ≡ 12) ⊎ IsBroken result.1.0 }
     ensures peer { result.1.0 ≡ 13 →
         Rose (P.faults front.entry.port.now) (P.faults result.1.1.port.now) }
+    ensures peer_told { P.faults front.entry.port.now < P.faults result.1.1.port.now →
+        (result.1.0 ≡ 13) ⊎ IsBroken result.1.0 }
     ensures others { (result.1.0 ≡ 16) ⊎ ((result.1.0 ≡ 19) ⊎ (result.1.0 ≡ 21)) → ⊥ }
 {
     let Front {
@@ -121,11 +132,13 @@ pub fn register<D: Disk, P: Port, W: Sink>(
     // What was answered and printed, and what the disk stands for then.
     ensures serves { ServesRegister D.tells D.plain P.tells number (D.history disk.old) (D.history disk.new) (P.coming port.old) (P.coming port.new) (P.answers port.old) (P.answers port.new) (W.contents sink.old) (W.contents sink.new) result }
 
-    // A fault is told only where it was counted.
+    // A fault is told only where it was counted, and is told where it was, unless the output or memory failed.
     ensures write { result ≡ 11 → Rose (W.faults sink.old) (W.faults sink.new) }
-    ensures told { W.faults sink.old < W.faults sink.new → result ≡ 11 }
     ensures broken { result ≡ 12 → Rose (D.faults disk.old) (D.faults disk.new) }
     ensures peer { result ≡ 13 → Rose (P.faults port.old) (P.faults port.new) }
+    ensures told { W.faults sink.old < W.faults sink.new → result ≡ 11 }
+    ensures broken_told { D.faults disk.old < D.faults disk.new → (result ≡ 12) ⊎ IsBroken result }
+    ensures peer_told { P.faults port.old < P.faults port.new → (result ≡ 13) ⊎ IsBroken result }
     ensures others { (result ≡ 16) ⊎ ((result ≡ 19) ⊎ (result ≡ 21)) → ⊥ }
 {
     let front = Front {

@@ -1,11 +1,11 @@
-ghost use Rattle.std.specs.Prelude.{◌≡◌, ◌≤◌, ◌<◌, ◌++◌, ℕ, List, vec_len};
+ghost use Rattle.std.specs.Prelude.{◌≡◌, ◌≤◌, ◌<◌, ◌⊎◌, ◌++◌, ℕ, List, vec_len};
 ghost use Rattle.io_core.specs.Causes.{Rose};
 ghost use Rattle.proto_model.specs.Servers.{ServerState};
 ghost use Rattle.server_loop.specs.declared.end.End.{End as EndValue};
-ghost use Rattle.server_loop.specs.Ends.{Prints, status_of, last_line};
+ghost use Rattle.server_loop.specs.Ends.{Prints, IsBroken, HasCountedOuts, status_of, last_line};
 ghost use Rattle.server_loop.specs.Turns.{desk};
 ghost use Rattle.server_loop.specs.Serving.{standing};
-ghost use Rattle.server_loop.specs.Sessions.{Runs};
+ghost use Rattle.server_loop.specs.Sessions.{Opens, Runs};
 ghost use Rattle.server_host.specs.Posts.{post_of};
 
 use crate::machine::Machine;
@@ -44,13 +44,16 @@ pub fn serve_server<L: Link, P: Port, W: Sink>(
     requires few_slots { setting.now.slots ≤ 4096 }
     ensures serves { (end : EndValue) × (lines : List ℕ)
         × Prints (W.contents sink.old) (W.contents sink.new) (lines ++ last_line end) (status_of end) result
+        × HasCountedOuts end (L.faults link.old) (L.faults link.new)
+        × (L.tells → Opens (post_of setting.now) (L.transcript link.old) (L.transcript link.new) end)
         × (L.tells → P.tells → (after : ServerState) × Runs (post_of setting.now) (L.transcript link.old) (P.coming port.old) (P.answers port.old)
         (desk (P.coming port.new) (P.answers port.new) (standing after (L.transcript link.new))) lines end) }
 
-    // A fault is told only where it was counted.
+    // A fault is told only where it was counted, and is told where it was.
     ensures write { result ≡ 11 → Rose (W.faults sink.old) (W.faults sink.new) }
     ensures told { W.faults sink.old < W.faults sink.new → result ≡ 11 }
     ensures peer { result ≡ 13 → Rose (P.faults port.old) (P.faults port.new) }
+    ensures peer_told { P.faults port.old < P.faults port.new → (result ≡ 13) ⊎ IsBroken result }
     ensures register { result ≡ 14 → Rose (L.faults link.old) (L.faults link.new) }
 {
     let count = setting.nodes.len() as u8;

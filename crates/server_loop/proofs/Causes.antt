@@ -1,6 +1,6 @@
 -- When a register at the other end of a link may be told to have failed.
-use Rattle.std.proofs.Common.{◌≡◌, ◌≢◌, ℕ, ◌≤◌, Result, Ok, Err, refl, sym, ap, ◌∙◌, rules}
-use Rattle.std.specs.Prelude.{IsErrOf}
+use Rattle.std.proofs.Common.{◌≡◌, ◌≢◌, ℕ, ◌≤◌, ◌<◌, Option, Some, None, Result, Ok, Err, refl, sym, ◌∙◌, inl, inr, arith}
+use Rattle.std.proofs.Math.Nat.{eq-or-lt_of_le}
 use Rattle.io_core.specs.Causes.{Rose}
 use Rattle.wire_codec.specs.declared.message.Message.{Message}
 use Rattle.wire_codec.specs.declared.message.Message.TheVariants as of
@@ -64,3 +64,19 @@ register_cause before now (Err Memory) end e h is = absurd (let f : ends.Registe
 register_cause before now (Ok (cas.Won session)) end e h is = absurd (cc)
 register_cause before now (Ok (cas.Lost other)) end e h is = absurd (let f : ends.Register ≡ ends.TakenOver other = sym is ∙ (let g : end ≡ ends.TakenOver other = cc in g) in cc)
 register_cause before now (Ok cas.Exhausted) end e h is = absurd (let f : ends.Register ≡ ends.Exhausted = sym is ∙ (let g : end ≡ ends.Exhausted = cc in g) in cc)
+
+-- ---- a port's faults
+
+-- a count that rose over two calls, of which the first counted none
+pub rose_after : {P : Type 0} (a b d : ℕ) → a ≤ b → (a < b → ⊥) → (b < d → P) → a < d → P
+rose_after a b d later none told rose = elim (eq-or-lt_of_le later) [
+  | inl same ↦ told (omega (arith, same, rose))
+  | inr first ↦ absurd (none first)
+]
+
+-- after a turn that is no end none was counted
+pub unrisen : (before now : ℕ) (end : Option End) → before ≤ now → (before < now → end ≡ Some ends.Peer) → end ≡ None → now ≡ before
+unrisen before now end later told none = elim (eq-or-lt_of_le later) [
+  | inl same ↦ sym same
+  | inr rose ↦ absurd (let e : None ≡ Some ends.Peer = sym none ∙ told rose in cc)
+]

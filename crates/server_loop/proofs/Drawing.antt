@@ -1,5 +1,5 @@
 -- How a session is drawn, from the two exchanges.
-use Rattle.std.proofs.Common.{◌≡◌, ◌≢◌, ℕ, List, Result, Ok, Err}
+use Rattle.std.proofs.Common.{◌≢◌, ℕ, List, Result, Ok, Err}
 use Rattle.io_core.specs.Links.{Exchange}
 use Rattle.session_register.specs.declared.register.Cas.{Cas}
 use Rattle.session_register.specs.declared.register.RegisterFault.{RegisterFault}

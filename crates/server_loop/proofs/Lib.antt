@@ -1,7 +1,9 @@
 pub mod Causes
 pub mod Moving
+pub mod Counting
 pub mod Whole
 pub mod Drawing
 pub mod Turning
 pub mod Printing
 pub mod Running
+pub mod Growing

@@ -1,5 +1,5 @@
 -- Each exchange of a drive leaves less before it.
-use Rattle.std.proofs.Common.{◌≡◌, ℕ, zero, suc, ◌+◌, ◌*◌, ◌^◌, ◌<◌, ◌||◌, if◌then◌else◌, Bool, true, false, List, [], ◌∷◌, length, set, Option, Some, None, Result, Ok, Err, refl, sym, ap, subst, ◌∙◌, inl, inr, arith}
+use Rattle.std.proofs.Common.{◌≡◌, ℕ, zero, suc, ◌+◌, ◌^◌, ◌<◌, ◌||◌, if◌then◌else◌, Bool, true, false, List, [], ◌∷◌, length, set, Some, Result, Ok, Err, refl, sym, ap, subst, ◌∙◌, inl, inr, arith}
 use Rattle.std.specs.Prelude.{OnOk, slice_index_or}
 use Rattle.tx_model.specs.declared.record.Record.{Record}
 use Rattle.tx_model.specs.Records.{IsBatch, IsPlace, RiseByOne, first_id}
@@ -11,7 +11,7 @@ use Rattle.proto_model.proofs.TableLemmas.{if_each}
 use Rattle.wire_codec.specs.declared.message.Message.{Message}
 use Rattle.wire_codec.specs.declared.message.Message.TheVariants as of
 use Rattle.server_loop.specs.declared.driving.Out.{Out}
-use Rattle.server_loop.specs.declared.driving.Out.TheVariants.{In, Failed, Other}
+use Rattle.server_loop.specs.declared.driving.Out.TheVariants.{In, Other}
 use Rattle.server_loop.specs.declared.awaiting.Answer.TheVariants as answer
 use Rattle.server_loop.specs.Drives.{is_awaited_by, out_after, part, parts, work, is_closed, Driving, IsInRound, IsLess, IsRound, IsWanted, MovesForward}
 

@@ -1,13 +1,13 @@
 -- What is printed before the last line of an end, and then that line.
-use Rattle.std.proofs.Common.{◌≡◌, ℕ, ◌≤◌, ◌⊎◌, List, [], ◌++◌, length, take, arith, zero, suc, ◌∙◌, sym, refl, inl, inr, Option, Result, Ok, Err, length-append}
+use Rattle.std.proofs.Common.{◌≡◌, ℕ, ◌≤◌, ◌⊎◌, List, [], ◌++◌, length, take, arith, zero, suc, ◌∙◌, ap, refl, inl, inr, Option, Result, Ok, Err, length-append}
 use Rattle.std.specs.Prelude.{IfErr}
 use Rattle.std.specs.Io.KnownBytes.{Appends}
 use Rattle.std.proofs.lemmas.List.{take-append-le, take_all, append-nil}
 use Rattle.io_core.specs.Bytes.{AppendsPrefix}
-use Rattle.io_core.proofs.Known.{Appends-more, AppendsPrefix-more, Appends-nothing}
+use Rattle.io_core.proofs.Known.{Appends-more, AppendsPrefix-more}
 use Rattle.server_loop.specs.declared.end.End.{End}
 use Rattle.server_loop.specs.declared.end.End.TheVariants.{Bye, Port, Turns, Peer, Register, Garbled, Exhausted, TakenOver, NoQuorum, WriteFault, Memory}
-use Rattle.server_loop.specs.Ends.{Prints, status_of, last_line, HasPrinted, IsUnannounced, SaysPart, IsBrokenEnd}
+use Rattle.server_loop.specs.Ends.{Prints, status_of, last_line, HasPrinted, IsUnannounced, SaysPart, IsBroken}
 
 -- a prefix of a text is one of a longer text
 pub AppendsPrefix-longer : (a b : Option (List ℕ)) (xs ys : List ℕ) → AppendsPrefix a b xs → AppendsPrefix a b (xs ++ ys)
@@ -99,3 +99,8 @@ second_part a b c first second (NoQuorum out) p q = absurd q
 pub if_err-map : {T E : Type 0} (r : Result T E) (P Q : E → Type 0) → ((e : E) → P e → Q e) → IfErr r P → IfErr r Q
 if_err-map (Ok x) P Q f h = h
 if_err-map (Err e) P Q f h = f e h
+
+-- the status of a port's fault, where its line is printed
+pub peer_status : (a b : Option (List ℕ)) (text : List ℕ) (end : End) (status : ℕ) → end ≡ Peer → Prints a b text (status_of end) status → (status ≡ 13) ⊎ IsBroken status
+peer_status a b text end status is (inl q) = inl (q.0 ∙ ap status_of is)
+peer_status a b text end status is (inr q) = inr q.0

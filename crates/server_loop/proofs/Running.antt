@@ -1,6 +1,5 @@
 -- All of a run, from its parts.
-use Rattle.std.proofs.Common.{◌≡◌, ℕ, List, [], ◌++◌, length, sym, refl, Option, None, Some, Result, Ok, Err}
-use Rattle.std.specs.Io.KnownBytes.{Appends}
+use Rattle.std.proofs.Common.{◌≡◌, ℕ, List, [], ◌++◌, length, sym, refl, Option, Result, Ok, Err}
 use Rattle.io_core.specs.Ports.{Answered}
 use Rattle.io_core.specs.Links.{Exchange}
 use Rattle.io_core.proofs.Known.{Appends-nothing}
@@ -15,7 +14,7 @@ use Rattle.session_register.specs.declared.register.RegisterFault.TheVariants as
 use Rattle.server_loop.specs.Registers.{IsDraw}
 use Rattle.server_loop.specs.Turns.{Desk, desk}
 use Rattle.server_loop.specs.Serving.{Standing, standing, IsFreshDrive, Serves}
-use Rattle.server_loop.specs.Sessions.{Post, Begins, IsRecovered, Runs, undrawn, unrecovered, recovered, no_memory, unbegun, unheard, unprinted, served, session_of, recovery_end}
+use Rattle.server_loop.specs.Sessions.{Post, Begins, IsRecovered, Runs, undrawn, unbegun, unheard, unprinted, served, session_of}
 use Rattle.server_loop.specs.Ends.{session_line, listening_line, HasPrinted, IsUnannounced}
 use Rattle.server_loop.proofs.Printing.{all_printed}
 

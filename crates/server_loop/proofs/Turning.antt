@@ -1,5 +1,5 @@
 -- One turn of a server, from its parts.
-use Rattle.std.proofs.Common.{◌≡◌, ℕ, ◌⊎◌, Bool, true, false, List, [], ◌∷◌, ◌++◌, sym, ap, ◌∙◌, refl, Option, None, Some, inl, inr, subst}
+use Rattle.std.proofs.Common.{◌≡◌, ℕ, Bool, true, false, List, [], ◌∷◌, ◌++◌, sym, ap, ◌∙◌, Option, inr}
 use Rattle.std.specs.Prelude.{MatchOption}
 use Rattle.io_core.specs.Ports.{Answered}
 use Rattle.proto_model.specs.declared.message.Phase.{Phase}
@@ -7,11 +7,11 @@ use Rattle.proto_model.specs.declared.message.Phase.TheVariants.{Idle, Opening, 
 use Rattle.proto_model.specs.Servers.{Config}
 use Rattle.wire_codec.specs.declared.message.Message.{Message}
 use Rattle.wire_codec.specs.Spelling.{message_frame}
-use Rattle.server_loop.specs.Requests.{Reads, is_bye}
+use Rattle.server_loop.specs.Requests.{is_bye}
 use Rattle.server_loop.specs.Drives.{is_closed}
 use Rattle.server_loop.specs.declared.end.End.{End}
 use Rattle.server_loop.specs.declared.end.End.TheVariants as ends
-use Rattle.server_loop.specs.Turns.{Desk, desk, IsTurn, IsLeft}
+use Rattle.server_loop.specs.Turns.{Desk, desk, IsLeft}
 use Rattle.server_loop.specs.Serving.{Standing, IsReplied, IsServerTurn, GoesOn, EndsBy, end_after}
 use Rattle.server_loop.specs.Taking.{Takes, IsUntaken}
 

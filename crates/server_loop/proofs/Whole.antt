@@ -1,8 +1,8 @@
 -- A message that all of the bytes spell.
-use Rattle.std.proofs.Common.{◌≡◌, ◌≢◌, ℕ, List, [], ◌++◌, length, take, sym, ap, ◌∙◌, refl, Result, Ok, Err, Option, None, Some, arith}
+use Rattle.std.proofs.Common.{◌≡◌, ◌≢◌, ℕ, List, [], ◌++◌, length, sym, ap, Result, Ok, Err, None, Some, arith}
 use Rattle.std.proofs.lemmas.List.{append-nil, take_all}
 use Rattle.record_frame.specs.declared.fault.FrameFault.{FrameFault}
-use Rattle.record_frame.specs.declared.fault.FrameFault.TheVariants.{Short, Bad, Memory}
+use Rattle.record_frame.specs.declared.fault.FrameFault.TheVariants.{Short, Bad}
 use Rattle.record_frame.specs.Reading.{BeginsWith, OkOrMemory}
 use Rattle.wire_codec.specs.declared.message.Message.{Message}
 use Rattle.wire_codec.specs.Spelling.{SpellsMessage}

@@ -1,5 +1,5 @@
 -- What a server is asked.
-use Rattle.std.specs.Prelude.{◌≡◌, Bool, true, false, List, ℕ, Option, None, Some}
+use Rattle.std.specs.Prelude.{◌≡◌, false, List, ℕ, Option, Some}
 use Rattle.wire_codec.specs.declared.message.Message.{Message}
 use Rattle.wire_codec.specs.declared.message.Message.TheVariants as of
 use Rattle.wire_codec.specs.declared.message.Control.TheVariants as control

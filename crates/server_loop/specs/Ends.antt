@@ -1,9 +1,10 @@
 -- How the server's command ends: its status, and the lines that it prints.
-use Rattle.std.specs.Prelude.{◌≡◌, ◌⊎◌, ℕ, zero, suc, ◌+◌, List, [], ◌∷◌, ◌++◌, codes, decimal, slice_index_or, ⊤, Option}
+use Rattle.std.specs.Prelude.{◌≡◌, ◌⊎◌, ℕ, zero, suc, ◌+◌, List, [], ◌++◌, codes, decimal, slice_index_or, ⊤, Option}
 use Rattle.std.specs.Io.KnownBytes.{Appends}
 use Rattle.io_core.specs.Bytes.{AppendsPrefix}
 use Rattle.server_loop.specs.declared.driving.Out.{Out}
 use Rattle.server_loop.specs.declared.driving.Out.TheVariants as outs
+use Rattle.server_loop.specs.Failures.{failures, RoseBy}
 use Rattle.server_loop.specs.declared.end.End.{End}
 use Rattle.server_loop.specs.declared.end.End.TheVariants.{Bye, Port, Turns, Peer, Register, Garbled, Exhausted, TakenOver, NoQuorum, WriteFault, Memory}
 
@@ -78,11 +79,15 @@ SaysPart old new text WriteFault = AppendsPrefix old new text
 SaysPart old new text Memory = AppendsPrefix old new text
 SaysPart old new text _ = ⊥
 
+-- the output failed, or there was no memory
+abbrev pub IsBroken : ℕ → Type 0
+IsBroken status = (status ≡ 11) ⊎ (status ≡ 20)
+
 -- the text is printed, and the status is that of the end; or the output broke off, or there was no memory
 abbrev pub Prints : Option (List ℕ) → Option (List ℕ) → List ℕ → ℕ → ℕ → Type 0
 Prints old new text due status =
     ((status ≡ due) × Appends old new text)
-    ⊎ (((status ≡ 11) ⊎ (status ≡ 20)) × AppendsPrefix old new text)
+    ⊎ (IsBroken status × AppendsPrefix old new text)
 
 -- the ends of a server that has begun no session, and those of one that serves
 abbrev pub IsBeginningEnd : End → Type 0
@@ -102,3 +107,16 @@ IsServingEnd Peer = ⊤
 IsServingEnd (TakenOver p) = ⊤
 IsServingEnd Memory = ⊤
 IsServingEnd _ = ⊥
+
+-- the ends of a server that has begun a session
+abbrev pub IsSessionEnd : End → Type 0
+IsSessionEnd Register = ⊥
+IsSessionEnd Garbled = ⊥
+IsSessionEnd Exhausted = ⊥
+IsSessionEnd (NoQuorum list) = ⊥
+IsSessionEnd _ = ⊤
+
+-- each node that an end tells to be out by a failed exchange has a counted fault of its own
+abbrev pub HasCountedOuts : End → ℕ → ℕ → Type 0
+HasCountedOuts (NoQuorum list) before now = RoseBy before now (failures list)
+HasCountedOuts _ before now = ⊤

@@ -44,3 +44,8 @@ pub record HasReplyCause {E : Type 0} (before now : ℕ) (result : Result Reply 
   pub later : before ≤ now
   pub failed : result ≡ Ok replies.Failed → Rose before now
   pub none : result ≢ Ok replies.Failed → now ≡ before
+
+-- the exchanges of before stay
+pub record Grows (old new : List Exchange) : Type 0 where
+  pub more : List Exchange
+  pub are : new ≡ old ++ more

@@ -2,6 +2,7 @@ pub mod Requests
 pub mod Exchanges
 pub mod Registers
 pub mod Drives
+pub mod Failures
 pub mod Ends
 pub mod Turns
 pub mod Serving

@@ -1,8 +1,8 @@
 -- What the bytes of a request are read as.
-use Rattle.std.specs.Prelude.{◌≡◌, Bool, true, false, List, ℕ, Option, None, Some}
+use Rattle.std.specs.Prelude.{Bool, true, false, List, ℕ, Option, None, Some}
 use Rattle.wire_codec.specs.declared.message.Message.{Message}
 use Rattle.wire_codec.specs.declared.message.Message.TheVariants as of
-use Rattle.wire_codec.specs.declared.message.Control.TheVariants.{Bye, Done, No}
+use Rattle.wire_codec.specs.declared.message.Control.TheVariants.{Bye}
 use Rattle.wire_codec.specs.Spelling.{SpellsMessage}
 
 -- the one message that all of the bytes spell, or none where they spell no message

@@ -1,5 +1,5 @@
 -- A server that serves clients: what it answers, and how its turns end.
-use Rattle.std.specs.Prelude.{◌≡◌, ◌⊎◌, ℕ, ◌+◌, nat_le, if◌then◌else◌, Bool, true, false, List, [], ◌∷◌, replicate, length, Option, None, Some}
+use Rattle.std.specs.Prelude.{◌≡◌, ◌⊎◌, ◌<◌, ℕ, nat_le, if◌then◌else◌, Bool, true, false, List, [], ◌∷◌, replicate, length, Option, None, Some}
 use Rattle.io_core.specs.Links.{Exchange}
 use Rattle.proto_model.specs.declared.message.Phase.{Phase}
 use Rattle.proto_model.specs.declared.message.Phase.TheVariants.{Closed}
@@ -94,9 +94,11 @@ end_after true phase = Some ends.Bye
 end_after false (Closed p) = Some (ends.TakenOver p)
 end_after false _ = None
 
--- all turns, up to the one that ends the loop, or up to the last that is taken
+-- all turns, up to the one that ends the loop, or up to the last that is taken, which is answered like each before
 pub record Serves (c : Config) (ports : List ℕ) (a b : Desk Standing) (end : End) : Type 0 where
   pub count : ℕ
   pub before : Desk Standing
   pub turns : InARow (Desk Standing) (GoesOn c ports) a count before
-  pub ends : EndsBy c ports before b end ⊎ ((end ≡ ends.Turns) × (count ≡ 1000000) × (b ≡ before))
+  pub ends :
+      ((count < 1000000) × EndsBy c ports before b end)
+      ⊎ ((end ≡ ends.Turns) × (count ≡ 1000000) × (b ≡ before))

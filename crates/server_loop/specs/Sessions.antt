@@ -4,7 +4,7 @@ use Rattle.io_core.specs.Ports.{Answered}
 use Rattle.io_core.specs.Links.{Exchange}
 use Rattle.proto_model.specs.declared.message.Phase.{Phase}
 use Rattle.proto_model.specs.declared.message.Phase.TheVariants.{Running, Closed}
-use Rattle.proto_model.specs.Servers.{Config, ServerState, drawn}
+use Rattle.proto_model.specs.Servers.{Config, drawn}
 use Rattle.server_loop.specs.declared.driving.Out.{Out}
 use Rattle.server_loop.specs.declared.end.End.{End}
 use Rattle.server_loop.specs.declared.end.End.TheVariants as ends
@@ -12,10 +12,11 @@ use Rattle.session_register.specs.declared.register.Cas.{Cas}
 use Rattle.session_register.specs.declared.register.Cas.TheVariants as cas
 use Rattle.session_register.specs.declared.register.RegisterFault.{RegisterFault}
 use Rattle.session_register.specs.declared.register.RegisterFault.TheVariants as faults
+use Rattle.server_loop.specs.Exchanges.{Grows}
 use Rattle.server_loop.specs.Registers.{IsDraw}
 use Rattle.server_loop.specs.Turns.{Desk, desk}
 use Rattle.server_loop.specs.Serving.{Standing, standing, IsFreshDrive, Serves}
-use Rattle.server_loop.specs.Ends.{IsBrokenEnd, session_line, listening_line}
+use Rattle.server_loop.specs.Ends.{IsBrokenEnd, IsSessionEnd, session_line, listening_line}
 
 -- what doesn't change in a run: the server's config, the ports of the register and of the nodes, and the server's own
 pub record Post : Type 0 where
@@ -65,3 +66,9 @@ pub data Runs (at : Post) (old : List Exchange) (coming : List (List ℕ)) (answ
   unheard : (b : Standing) (session : ℕ) → Begins at old b (Ok session) → Runs at old coming answers (desk coming answers b) (session_line session (length b.state.log)) ends.Peer
   unprinted : (b : Standing) (session : ℕ) (end : End) → Begins at old b (Ok session) → IsBrokenEnd end → Runs at old coming answers (desk coming answers b) (begun_lines at session b) end
   served : (b : Standing) (session : ℕ) (d : Desk Standing) (end : End) → Begins at old b (Ok session) → Serves at.config at.nodes (desk coming answers b) d end → Runs at old coming answers d (begun_lines at session b) end
+
+-- How a run opens, which is told over the link alone. No session begins, and nothing is exchanged after that; or one
+-- begins, and the exchanges go on from there up to an end that is none of beginning.
+pub data Opens (at : Post) (old new : List Exchange) : End → Type 0 where
+  unbegun : (b : Standing) (end : End) → Begins at old b (Err end) → new ≡ b.past → Opens at old new end
+  begun : (b : Standing) (session : ℕ) (end : End) → Begins at old b (Ok session) → IsSessionEnd end → Grows b.past new → Opens at old new end

@@ -1,5 +1,5 @@
 -- How the next request is taken.
-use Rattle.std.specs.Prelude.{◌≡◌, ◌⊎◌, ℕ, List, [], ◌∷◌, Option}
+use Rattle.std.specs.Prelude.{◌≡◌, ℕ, List, [], ◌∷◌, Option}
 use Rattle.wire_codec.specs.declared.message.Message.{Message}
 use Rattle.server_loop.specs.Requests.{Reads}
 use Rattle.server_loop.specs.declared.end.End.{End}

@@ -1,5 +1,6 @@
-ghost use Rattle.std.specs.Prelude.{◌≡◌, ◌≤◌, ◌<◌, ◌||◌, true, set, slice_index_or, length, Ok, IfOk, OnOk};
+ghost use Rattle.std.specs.Prelude.{◌≡◌, ◌≤◌, ◌<◌, ◌||◌, ℕ, true, set, slice_index_or, length, Ok, IfOk, OnOk};
 ghost use Rattle.wire_codec.specs.Spelling.{IsValidMessage};
+ghost use Rattle.server_loop.specs.Failures.{HasAnswerCause, HasCounted};
 ghost use Rattle.server_loop.specs.Drives.{driving, out_after, state_after, work, Answers, IsDrive, IsLess, IsRound, IsValidAnswer, IsVisit, IsWanted};
 
 use crate::awaiting::{Answer, answer_of, is_awaited_by};
@@ -21,6 +22,7 @@ pub enum Out {
 }
 
 // One exchange with a node.
+#[tactic(auto, using(crate::proofs::Counting::answer_cause))]
 fn ask_node<L: Link>(
     alloc: Global,
     link: &mut L,
@@ -34,6 +36,7 @@ fn ask_node<L: Link>(
         Answers port message.now answer (L.transcript link.old) (L.transcript link.new)) }
     ensures valid { IfOk result IsValidAnswer }
     ensures room { length room.new ≡ length room.old }
+    ensures cause { IfOk result (HasAnswerCause (L.faults link.old) (L.faults link.new)) }
 {
     match exchange(alloc, link, port, message, room) {
         Ok(reply) => Ok(answer_of(reply)),
@@ -61,6 +64,10 @@ fn hear<S: Driven>(
     ensures outs { OnOk result (outs.new ≡
         set outs.old node (out_after (S.state server.old) sent.now answer)) }
     ensures less { OnOk result (work outs.new (S.lack server.new) < work outs.old (S.lack server.old)) }
+
+    // The link's count of faults before and after the exchange.
+    ensures counted { OnOk result ((before now : ℕ) → HasAnswerCause before now answer →
+        HasCounted before now outs.old outs.new) }
 {
     let last = server.last();
     match answer {
@@ -84,7 +91,7 @@ fn hear<S: Driven>(
 }
 
 // Lets a node have its next message, and says whether there was one.
-#[tactic(auto, using(crate::proofs::Moving::wanted_next))]
+#[tactic(auto, using(crate::proofs::Moving::wanted_next, crate::proofs::Counting::none_counted))]
 fn visit<S: Driven, L: Link>(
     alloc: Global,
     server: &mut S,
@@ -106,6 +113,7 @@ fn visit<S: Driven, L: Link>(
     ensures room { length room.new ≡ length room.old }
     ensures less { IfOk result (λ sent. IsLess sent
         (work outs.old (S.lack server.old)) (work outs.new (S.lack server.new))) }
+    ensures counted { OnOk result (HasCounted (L.faults link.old) (L.faults link.new) outs.old outs.new) }
 {
     if outs[node as usize] != Out::In {
         return Ok(false);
@@ -143,6 +151,7 @@ fn round<S: Driven, L: Link>(
     ensures config { S.config server.new ≡ S.config server.old }
     ensures room { length room.new ≡ length room.old }
     ensures less { result ≡ Ok true → work outs.new (S.lack server.new) < work outs.old (S.lack server.old) }
+    ensures counted { OnOk result (HasCounted (L.faults link.old) (L.faults link.new) outs.old outs.new) }
 {
     let mut sent = false;
     for before in 0..server.nodes() {
@@ -174,6 +183,9 @@ pub fn drive<S: Driven, L: Link>(
         (driving (S.state server.new) outs.new (L.transcript link.new))) }
     ensures config { S.config server.new ≡ S.config server.old }
     ensures room { length room.new ≡ length room.old }
+
+    // A node is out by a failed exchange only where the link counted a fault.
+    ensures counted { OnOk result (HasCounted (L.faults link.old) (L.faults link.new) outs.old outs.new) }
 {
     'rounds: while round(alloc, server, link, ports, outs, room)? {}
     Ok(())

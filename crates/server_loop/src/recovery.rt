@@ -3,9 +3,10 @@ ghost use Rattle.io_core.specs.Causes.{Rose};
 ghost use Rattle.proto_model.specs.Servers.{drawn};
 ghost use Rattle.tx_model.specs.Records.{IsPlace};
 ghost use Rattle.session_register.specs.Registers.{IsCas};
-ghost use Rattle.server_loop.specs.Serving.{standing, IsFreshDrive};
+ghost use Rattle.server_loop.specs.Failures.{HasCounted};
+ghost use Rattle.server_loop.specs.Serving.{standing, all_in, IsFreshDrive};
 ghost use Rattle.server_loop.specs.Sessions.{post, session_of, recovery_end, Begins};
-ghost use Rattle.server_loop.specs.Ends.{IsBeginningEnd};
+ghost use Rattle.server_loop.specs.Ends.{IsBeginningEnd, HasCountedOuts};
 
 use crate::End;
 use crate::driving::Out;
@@ -67,6 +68,7 @@ fn recover<H: Host, L: Link>(
         (standing (H.state host.new) (L.transcript link.new)) out) }
     ensures config { H.config host.new ≡ H.config host.old }
     ensures room { length room.new ≡ length room.old }
+    ensures counted { IfOk result (HasCounted (L.faults link.old) (L.faults link.new) all_in) }
 {
     host.drew(session);
     drive_all(alloc, host, link, ports, room)
@@ -90,6 +92,7 @@ pub fn begin_session<H: Host, L: Link>(
     ensures room { length room.new ≡ length room.old }
     ensures ends { IfErr result IsBeginningEnd }
     ensures register { result ≡ Err End.Register → Rose (L.faults link.old) (L.faults link.new) }
+    ensures counted { IfErr result (λ end. HasCountedOuts end (L.faults link.old) (L.faults link.new)) }
 {
     let session = match session_of(draw(alloc, link, register, room)) {
         Ok(session) => session,

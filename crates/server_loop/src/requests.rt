@@ -125,6 +125,7 @@ pub fn next_request<P: Port>(
     ensures later { P.faults port.old ≤ P.faults port.new }
     ensures ends { IfErr result IsServingEnd }
     ensures peer { result ≡ Err End.Peer → Rose (P.faults port.old) (P.faults port.new) }
+    ensures peer_told { P.faults port.old < P.faults port.new → result ≡ Err End.Peer }
 {
     // So a request that is longer than the room is no message.
     frames_are_short();

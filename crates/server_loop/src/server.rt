@@ -3,10 +3,10 @@ ghost use Rattle.std.specs.Io.KnownBytes.{Appends};
 ghost use Rattle.std.specs.String.{string_bytes};
 ghost use Rattle.io_core.specs.Causes.{Rose};
 ghost use Rattle.server_loop.specs.declared.end.End.{End as EndValue};
-ghost use Rattle.server_loop.specs.Ends.{Prints, status_of, last_line, session_line, listening_line, HasPrinted, IsUnannounced, SaysPart};
+ghost use Rattle.server_loop.specs.Ends.{Prints, IsBroken, status_of, last_line, session_line, listening_line, HasCountedOuts, HasPrinted, IsUnannounced, SaysPart};
 ghost use Rattle.server_loop.specs.Turns.{Desk, desk};
 ghost use Rattle.server_loop.specs.Serving.{Standing, standing};
-ghost use Rattle.server_loop.specs.Sessions.{post, Runs};
+ghost use Rattle.server_loop.specs.Sessions.{post, Opens, Runs};
 
 use crate::End;
 use crate::end::last_line;
@@ -81,6 +81,7 @@ fn announce<P: Port, W: Sink>(
     ensures answers { P.tells → P.answers port.new ≡ P.answers port.old }
     ensures port_later { P.faults port.old ≤ P.faults port.new }
     ensures peer { result ≡ Err End.Peer → Rose (P.faults port.old) (P.faults port.new) }
+    ensures peer_told { P.faults port.old < P.faults port.new → result ≡ Err End.Peer }
     ensures sink_later { W.faults sink.old ≤ W.faults sink.new }
     ensures write { result ≡ Err End.WriteFault → Rose (W.faults sink.old) (W.faults sink.new) }
     ensures told { W.faults sink.old < W.faults sink.new → result ≡ Err End.WriteFault }
@@ -111,7 +112,11 @@ fn run<H: Host, L: Link, P: Port, W: Sink>(
         × (L.tells → P.tells → Runs (post (H.config host.old) register nodes.now number) (L.transcript link.old) (P.coming port.old) (P.answers port.old)
         (desk (P.coming port.new) (P.answers port.new) (standing (H.state host.new) (L.transcript link.new))) lines result) }
     ensures register { result ≡ End.Register → Rose (L.faults link.old) (L.faults link.new) }
+    ensures counted { HasCountedOuts result (L.faults link.old) (L.faults link.new) }
+    ensures opens { L.tells → Opens (post (H.config host.old) register nodes.now number) (L.transcript link.old)
+        (L.transcript link.new) result }
     ensures peer { result ≡ End.Peer → Rose (P.faults port.old) (P.faults port.new) }
+    ensures peer_told { P.faults port.old < P.faults port.new → result ≡ End.Peer }
     ensures sink_later { W.faults sink.old ≤ W.faults sink.new }
     ensures write { result ≡ End.WriteFault → Rose (W.faults sink.old) (W.faults sink.new) }
     ensures told { W.faults sink.old < W.faults sink.new → result ≡ End.WriteFault }
@@ -166,13 +171,16 @@ pub fn host_session<H: Host, L: Link, P: Port, W: Sink>(
     requires nodes { length nodes.now ≡ (H.config host.old).nodes }
     ensures serves { (end : EndValue) × (lines : List ℕ)
         × Prints (W.contents sink.old) (W.contents sink.new) (lines ++ last_line end) (status_of end) result
+        × HasCountedOuts end (L.faults link.old) (L.faults link.new)
+        × (L.tells → Opens (post (H.config host.old) register nodes.now number) (L.transcript link.old) (L.transcript link.new) end)
         × (L.tells → P.tells → Runs (post (H.config host.old) register nodes.now number) (L.transcript link.old) (P.coming port.old) (P.answers port.old)
         (desk (P.coming port.new) (P.answers port.new) (standing (H.state host.new) (L.transcript link.new))) lines end) }
 
-    // A fault is told only where it was counted.
+    // A fault is told only where it was counted, and is told where it was.
     ensures write { result ≡ 11 → Rose (W.faults sink.old) (W.faults sink.new) }
     ensures told { W.faults sink.old < W.faults sink.new → result ≡ 11 }
     ensures peer { result ≡ 13 → Rose (P.faults port.old) (P.faults port.new) }
+    ensures peer_told { P.faults port.old < P.faults port.new → (result ≡ 13) ⊎ IsBroken result }
     ensures register { result ≡ 14 → Rose (L.faults link.old) (L.faults link.new) }
 {
     let end = run(alloc, host, link, register, nodes, port, number, sink);

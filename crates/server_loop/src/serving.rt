@@ -4,7 +4,8 @@ ghost use Rattle.proto_model.specs.Servers.{commit_mark};
 ghost use Rattle.proto_model.specs.Validity.{IsValidToServer, IsValidFromServer, IsWord};
 ghost use Rattle.wire_codec.specs.Spelling.{IsValidMessage};
 ghost use Rattle.wire_codec.specs.declared.message.Message.TheVariants as of;
-ghost use Rattle.server_loop.specs.Serving.{standing, IsFreshDrive, settled_answer, IsSettled, IsServed, IsReplied};
+ghost use Rattle.server_loop.specs.Failures.{HasCounted};
+ghost use Rattle.server_loop.specs.Serving.{standing, all_in, IsFreshDrive, settled_answer, IsSettled, IsServed, IsReplied};
 
 use crate::driving::{Out, drive};
 use crate::host::Host;
@@ -29,6 +30,7 @@ pub fn drive_all<H: Host, L: Link>(
         (standing (H.state host.new) (L.transcript link.new)) out) }
     ensures config { H.config host.new ≡ H.config host.old }
     ensures room { length room.new ≡ length room.old }
+    ensures counted { IfOk result (HasCounted (L.faults link.old) (L.faults link.new) all_in) }
 {
     let mut outs = [Out::In; 8];
     drive(alloc, host, link, ports, &mut outs, room)?;

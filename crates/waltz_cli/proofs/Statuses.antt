@@ -117,11 +117,13 @@ pub no_register : (tells plain heard : Type 0) (number : ℕ) (h : History) (com
 no_register tells plain heard number h coming answers held =
     (ends.Memory, [], register.unloaded ends.Memory (λ t. refl) refl refl, inr (inr refl, (0, omega arith, Appends-nothing held)))
 
-pub no_server : (tells heard : Type 0) (at : Post) (past : List Exchange) (coming : List (List ℕ)) (answers : List Answered) (held : Option (List ℕ)) → ServesPartition tells heard at past past coming coming answers answers held held 20
-no_server tells heard at past coming answers held = (
+pub no_server : (tells heard : Type 0) (at : Post) (past : List Exchange) (counted : ℕ) (coming : List (List ℕ)) (answers : List Answered) (held : Option (List ℕ)) → ServesPartition tells heard at past past counted counted coming coming answers answers held held 20
+no_server tells heard at past counted coming answers held = (
   server_ends.Memory,
   [],
   inr (inr refl, (0, omega arith, Appends-nothing held)),
+  tt,
+  (λ t. unbegun (standing (drawn 0) past) server_ends.Memory (no_memory (standing (drawn 0) past)) refl),
   (λ t u. (drawn 0, unbegun (standing (drawn 0) past) server_ends.Memory (no_memory (standing (drawn 0) past)))),
 )
 

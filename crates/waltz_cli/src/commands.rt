@@ -65,6 +65,7 @@ pub fn serve<S: Source, W: Sink, D: Disk, P: Port, L: Link>(
         (W.contents sink.old) (W.contents sink.new) result }
     ensures server { (s : SettingValue) → command.now ≡ commands.Server s →
         ServesPartition L.tells P.tells (post_of s) (L.transcript link.old) (L.transcript link.new)
+        (L.faults link.old) (L.faults link.new)
         (P.coming port.old) (P.coming port.new) (P.answers port.old) (P.answers port.new)
         (W.contents sink.old) (W.contents sink.new) result }
     ensures client { (id server : ℕ) → command.now ≡ commands.Client id server →
@@ -93,6 +94,10 @@ pub fn serve<S: Source, W: Sink, D: Disk, P: Port, L: Link>(
     ensures asked { (UsesPort command.now → ⊥) →
         result ≡ 13 → Rose (L.faults link.old) (L.faults link.new) }
     ensures no_register { result ≡ 14 → Rose (L.faults link.old) (L.faults link.new) }
+    ensures broken_told { D.faults disk.old < D.faults disk.new → (result ≡ 12) ⊎ IsBroken result }
+    ensures peer_told { P.faults port.old < P.faults port.new → (result ≡ 13) ⊎ IsBroken result }
+    ensures asked_told { (UsesPort command.now → ⊥) →
+        L.faults link.old < L.faults link.new → (result ≡ 13) ⊎ IsBroken result }
 {
     match command {
         Command::Replay => replay_schedule(alloc, source, sink),

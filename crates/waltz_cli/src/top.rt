@@ -70,6 +70,7 @@ pub fn run<S: Source, W: Sink, D: Disk, P: Port, L: Link>(
     ensures server { (s : SettingValue) →
         AreWordsOf (map string_bytes words.now) (commands.Server s) →
         ServesPartition L.tells P.tells (post_of s) (L.transcript link.old) (L.transcript link.new)
+        (L.faults link.old) (L.faults link.new)
         (P.coming port.old) (P.coming port.new) (P.answers port.old) (P.answers port.new)
         (W.contents sink.old) (W.contents sink.new) result }
 
@@ -112,6 +113,10 @@ pub fn run<S: Source, W: Sink, D: Disk, P: Port, L: Link>(
     ensures no_register { result ≡ 14 → Rose (L.faults link.old) (L.faults link.new) }
     ensures read_told { S.faults source.old < S.faults source.new → (result ≡ 10) ⊎ IsBroken result }
     ensures write_told { W.faults sink.old < W.faults sink.new → result ≡ 11 }
+    ensures broken_told { D.faults disk.old < D.faults disk.new → (result ≡ 12) ⊎ IsBroken result }
+    ensures peer_told { P.faults port.old < P.faults port.new → (result ≡ 13) ⊎ IsBroken result }
+    ensures asked_told { HaveNo UsesPort (map string_bytes words.now) →
+        L.faults link.old < L.faults link.new → (result ≡ 13) ⊎ IsBroken result }
 {
     match read_command(alloc, words) {
         Ok(Some(command)) => serve(alloc, &command, source, sink, disk, port, link),

@@ -1,4 +1,4 @@
--- A request that holds a write lock enters the one log at most once.
+-- Two places of the one log with one client's request hold one transaction, which has no write lock.
 use Rattle.std.proofs.Common.{Contains, ◌≡◌, ℕ, zero, suc, ◌<◌, ◌⊎◌, arith, refl, ap, sym, inl, inr, subst, List, [], ◌∷◌, ◌++◌, Option, Some, None}
 use Rattle.proto_model.proofs.TableLemmas.{AllByRecursion-get}
 use Rattle.client_core.specs.Clients.{built}
@@ -131,10 +131,12 @@ no_repeats w g r u t earlier later less at_u at_t client request =
     (at_made P (one_log w) all t later at_t) client request in
     let clean = one_log_clean w g.holds in
     let mark : earlier.tx.mark ≡ later.tx.mark = ap (λ (x : Transaction). x.mark) same in
-    let below = clean.below u earlier at_u in
-    writes_none later.tx.reads later.tx.writes (λ lock held.
-    clean.apart t u later earlier lock at_t at_u (omega (arith, mark, below)) less
-    (subst (λ (x : Transaction). Contains x.writes lock) (sym same) held))
+    let below = clean.below u earlier at_u in (
+      same,
+      writes_none later.tx.reads later.tx.writes (λ lock held.
+          clean.apart t u later earlier lock at_t at_u (omega (arith, mark, below)) less
+          (subst (λ (x : Transaction). Contains x.writes lock) (sym same) held)),
+    )
 
 in_run : (old : WorldState) (events : List Event) (outcomes : List Outcome) (worlds : List WorldState) → Good old → Requests old
     → IsRun old events outcomes worlds

@@ -52,7 +52,8 @@ pub fn valid_reads()
     ensures reads { ReadsAreValid }
 {}
 
-/// Two places of the one log with the same client and request hold transactions without write locks.
+/// Two places of the one log with the same client and request hold one transaction, which has no write lock. So a request that
+/// holds a write lock enters at most once.
 pub fn repeats()
     ensures { RequestsEnterOnce }
 {}

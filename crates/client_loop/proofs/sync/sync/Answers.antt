@@ -21,13 +21,13 @@ returns-in-Ok-true-clause-synced g c told =
     let on : c.in-Ok-true.field-0 ≡ true = search rules in
     let x = rw on at (c.in-Ok-true.ensures.asked told) in (
       x.0,
-      record { count = c.loop-count.count; before = _; moved = c.loop-count.invariant.moved told; ends = inl x.1 },
+      record { count = c.loop-count.count; before = _; moved = c.loop-count.invariant.moved told; ends = inl (omega arith, x.1) },
       x.2 ∙ ap (λ (l : List ℕ). l ++ x.0) (c.loop-count.invariant.text told),
     )
 
 pub returns-in-Err-clause-unsynced : goal.returns-in-Err-clause-unsynced
 returns-in-Err-clause-unsynced g c told =
-    record { count = c.loop-count.count; before = _; moved = c.loop-count.invariant.moved told; stops = c.in-Err.ensures.stopped told }
+    record { count = c.loop-count.count; before = _; moved = c.loop-count.invariant.moved told; stops = inl (omega arith, c.in-Err.ensures.stopped told) }
 
 pub returns-in-Ok-clause-synced : goal.returns-in-Ok-clause-synced
 returns-in-Ok-clause-synced g c told =
@@ -38,4 +38,5 @@ returns-in-Ok-clause-synced g c told =
     )
 
 pub returns-in-Err-say_more-clause-unsynced : goal.returns-in-Err-say_more-clause-unsynced
-returns-in-Err-say_more-clause-unsynced g c told = record { count = c.loop-count.count; before = _; moved = c.loop-count.invariant.moved told; stops = inl refl }
+returns-in-Err-say_more-clause-unsynced g c told =
+    record { count = c.loop-count.count; before = _; moved = c.loop-count.invariant.moved told; stops = inr (omega arith, refl, refl) }

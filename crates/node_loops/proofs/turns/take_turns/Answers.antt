@@ -1,6 +1,7 @@
-use Rattle.std.proofs.Common.{arith, rules, refl, inl, inr}
+use Rattle.std.proofs.Common.{arith, rules, refl, inl, inr, ◌∙◌}
 use Rattle.std.proofs.lemmas.Bool.Decides.{nat_tests}
 use Rattle.node_loops.specs.Serving.{none, one_more}
+use Rattle.node_loops.proofs.Counted.{cause_from, turns_cause}
 use Rattle.node_loops.proofs.turns.take_turns.Goals as goal
 
 pub loop-count-init : goal.loop-count-init
@@ -8,8 +9,8 @@ loop-count-init g c = record {
   turns = λ told. none;
   works = c.requires.works;
   room = c.requires.room;
-  later = omega arith;
-  port_later = omega arith;
+  same = refl;
+  port_same = refl;
   blind = λ end b. b;
 }
 
@@ -18,8 +19,8 @@ loop-count-preserved g c = record {
   turns = λ told. one_more _ _ _ (c.loop-count.invariant.turns told) (c.in_default.ensures.turn told);
   works = c.in_default.ensures.works (search rules);
   room = search rules;
-  later = omega (arith, c.loop-count.invariant.later, c.turn.ensures.later);
-  port_later = omega (arith, c.loop-count.invariant.port_later, c.turn.ensures.port_later);
+  same = c.turn.ensures.same (search rules) ∙ c.loop-count.invariant.same;
+  port_same = c.turn.ensures.port_same (search rules) ∙ c.loop-count.invariant.port_same;
   blind = λ end b. c.loop-count.invariant.blind end (c.turn.ensures.blind (search rules) end b);
 }
 
@@ -38,3 +39,11 @@ returns-clause-serves g c t = record {
   turns = c.loop-count.invariant.turns t;
   ends = inr (refl, grind (arith, nat_tests), refl);
 }
+
+pub returns-in-Some-clause-cause : goal.returns-in-Some-clause-cause
+returns-in-Some-clause-cause g c =
+    cause_from _ _ _ _ _ _ _ _ _ c.in-Some.end c.loop-count.invariant.port_same c.loop-count.invariant.same
+    (c.loop-count.invariant.blind c.in-Some.end) c.in-Some.ensures.cause
+
+pub returns-clause-cause : goal.returns-clause-cause
+returns-clause-cause g c = turns_cause _ _ _ _ _ _ c.loop-count.invariant.port_same c.loop-count.invariant.same

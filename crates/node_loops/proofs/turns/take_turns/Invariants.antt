@@ -1,4 +1,4 @@
-use Rattle.std.proofs.Common.{◌≡◌, ◌≤◌, length}
+use Rattle.std.proofs.Common.{◌≡◌, length}
 use Rattle.wire_codec.specs.declared.reading.TheConstants.{MAX_FRAME}
 use Rattle.node_loops.specs.declared.end.End.{End}
 use Rattle.node_loops.specs.Serving.{Desk, desk, InARow, GoesOn}
@@ -11,7 +11,7 @@ invariant-loop-count g l = record {
       (desk (g.P.Port.coming l.port) (g.P.Port.answers l.port) l.served);
   works : g.S.Serving.works l.served;
   room : length l.room ≡ MAX_FRAME;
-  later : g.S.Serving.faults l.fn.served ≤ g.S.Serving.faults l.served;
-  port_later : g.P.Port.faults l.fn.port ≤ g.P.Port.faults l.port;
+  same : g.S.Serving.faults l.served ≡ g.S.Serving.faults l.fn.served;
+  port_same : g.P.Port.faults l.port ≡ g.P.Port.faults l.fn.port;
   blind : (end : End) → g.S.Serving.blind l.served end → g.S.Serving.blind l.fn.served end;
 }

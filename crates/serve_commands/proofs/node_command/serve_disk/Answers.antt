@@ -1,7 +1,7 @@
-use Rattle.std.proofs.Common.{refl, sym, ap, Err}
+use Rattle.std.proofs.Common.{arith, refl, sym, ap, Err}
 use Rattle.partition_store.specs.Stands.{held_now}
 use Rattle.serve_commands.specs.Storages.{unloaded, loaded}
-use Rattle.serve_commands.proofs.NotLoaded.{storage_unloaded}
+use Rattle.serve_commands.proofs.NotLoaded.{storage_unloaded, unloaded_told}
 use Rattle.serve_commands.proofs.node_command.serve_disk.Goals as goal
 
 pub returns-in-Ok-clause-serves : goal.returns-in-Ok-clause-serves
@@ -27,3 +27,11 @@ returns-in-Err-clause-serves g c = (
       refl refl,
   c.finish-status.ensures.prints,
 )
+
+pub returns-in-Ok-clause-broken_told : goal.returns-in-Ok-clause-broken_told
+returns-in-Ok-clause-broken_told g c rose =
+    c.serve_node.ensures.broken_told (omega (arith, rose, c.in-Ok.ensures.cause.none (λ e. cc)))
+
+pub returns-in-Err-clause-broken_told : goal.returns-in-Err-clause-broken_told
+returns-in-Err-clause-broken_told g c =
+    unloaded_told _ _ _ c.in-Err.unloaded.fault _ _ _ c.in-Err.ensures.cause (rw c.end_of.ensures at c.finish-status.ensures.prints)

@@ -1,7 +1,7 @@
-use Rattle.std.proofs.Common.{refl}
+use Rattle.std.proofs.Common.{arith, refl}
 use Rattle.session_register.specs.Disks.{Kept}
 use Rattle.serve_commands.specs.Registers.{unloaded, loaded}
-use Rattle.serve_commands.proofs.NotLoaded.{register_unloaded}
+use Rattle.serve_commands.proofs.NotLoaded.{register_unloaded, unloaded_told}
 use Rattle.serve_commands.proofs.register_command.serve_disk.Goals as goal
 
 pub returns-in-Ok-clause-serves : goal.returns-in-Ok-clause-serves
@@ -18,3 +18,11 @@ returns-in-Err-clause-serves g c = (
       refl refl,
   c.finish-status.ensures.prints,
 )
+
+pub returns-in-Ok-clause-broken_told : goal.returns-in-Ok-clause-broken_told
+returns-in-Ok-clause-broken_told g c rose =
+    c.serve_kept.ensures.broken_told (omega (arith, rose, c.in-Ok.ensures.cause.none (λ e. cc)))
+
+pub returns-in-Err-clause-broken_told : goal.returns-in-Err-clause-broken_told
+returns-in-Err-clause-broken_told g c =
+    unloaded_told _ _ _ c.in-Err.unloaded.fault _ _ _ c.in-Err.ensures.cause (rw c.end_of.ensures at c.finish-status.ensures.prints)

@@ -1,4 +1,4 @@
-use Rattle.server_loop.proofs.Whole.{part_read, short_read, bad_read}
+use Rattle.server_loop.proofs.Whole.{part_read, bad_read}
 use Rattle.std.proofs.Common.{arith}
 use Rattle.std.proofs.lemmas.Bool.Decides.{nat_tests}
 use Rattle.server_loop.proofs.requests.whole_message.Goals as goal

@@ -1,8 +1,11 @@
-use Rattle.std.proofs.Common.{◌++◌}
+use Rattle.std.proofs.Common.{◌++◌, refl}
 use Rattle.server_loop.specs.declared.end.End.TheVariants.{Memory}
 use Rattle.server_loop.specs.Ends.{session_line, listening_line}
 use Rattle.server_loop.specs.Serving.{standing}
-use Rattle.server_loop.specs.Sessions.{post, no_memory}
+use Rattle.server_loop.specs.Sessions.{post, no_memory, unbegun}
+use Rattle.server_loop.proofs.Causes.{rose_after}
+use Rattle.server_loop.proofs.Counting.{serving_counted, unannounced_counted}
+use Rattle.server_loop.proofs.Growing.{left_open, unannounced_opens, served_opens}
 use Rattle.server_loop.proofs.Printing.{all_printed}
 use Rattle.server_loop.proofs.Running.{unbegun_run, unannounced_run, served_run}
 use Rattle.server_loop.proofs.server.run.Goals as goal
@@ -31,6 +34,11 @@ returns-in-Ok-announce-clause-register g c e = absurd (rw e at c.take_turns.ensu
 pub returns-in-Ok-announce-clause-write : goal.returns-in-Ok-announce-clause-write
 returns-in-Ok-announce-clause-write g c e = absurd (rw e at c.take_turns.ensures.ends)
 
+pub returns-in-Ok-announce-clause-peer_told : goal.returns-in-Ok-announce-clause-peer_told
+returns-in-Ok-announce-clause-peer_told g c =
+    rose_after (g.P.Port.faults c.args.port.now) (g.P.Port.faults c.announce.new.port) (g.P.Port.faults c.take_turns.new.port) c.announce.ensures.port_later
+    (λ first. let e = c.in-Ok-announce.ensures.peer_told first in cc) c.take_turns.ensures.peer_told
+
 pub returns-in-Ok-announce-clause-runs : goal.returns-in-Ok-announce-clause-runs
 returns-in-Ok-announce-clause-runs g c = (
   session_line c.in-Ok-begin_session.session c.last.result ++ listening_line c.args.number,
@@ -50,3 +58,24 @@ returns-clause-runs g c =
     (g.W.Sink.contents c.args.sink.now) (g.W.Sink.contents c.announce.new.sink) c.in-Err-announce.end
     c.last.ensures c.in-Err-announce.ensures.unannounced in
     (r.0, r.1, λ t u. r.2 (c.in-Ok-begin_session.ensures.begins t c.args.number) (c.announce.ensures.coming u) (c.announce.ensures.answers u))
+
+pub returns-in-Ok-announce-clause-counted : goal.returns-in-Ok-announce-clause-counted
+returns-in-Ok-announce-clause-counted g c = serving_counted _ _ c.take_turns.result c.take_turns.ensures.ends
+
+pub returns-clause-counted : goal.returns-clause-counted
+returns-clause-counted g c = unannounced_counted _ _ _ _ _ _ c.in-Err-announce.end c.in-Err-announce.ensures.unannounced
+
+pub returns-in_default-clause-opens : goal.returns-in_default-clause-opens
+returns-in_default-clause-opens g c t = left_open _ _ _ (standing (g.H.Driven.state c.args.host.now) (g.L.Link.transcript c.args.link.now)) refl
+
+pub returns-in-Err-clause-opens : goal.returns-in-Err-clause-opens
+returns-in-Err-clause-opens g c t = unbegun _ c.in-Err.end (c.in-Err.ensures.begins t c.args.number) refl
+
+pub returns-clause-opens : goal.returns-clause-opens
+returns-clause-opens g c t =
+    unannounced_opens _ _ _ c.in-Ok-begin_session.session _ _ _ _ c.in-Err-announce.end (c.in-Ok-begin_session.ensures.begins t c.args.number) c.in-Err-announce.ensures.unannounced
+
+pub returns-in-Ok-announce-clause-opens : goal.returns-in-Ok-announce-clause-opens
+returns-in-Ok-announce-clause-opens g c t =
+    served_opens _ _ _ _ (standing (g.H.Driven.state c.take_turns.new.host) (g.L.Link.transcript c.take_turns.new.link)) c.in-Ok-begin_session.session c.take_turns.result refl
+    (c.in-Ok-begin_session.ensures.begins t c.args.number) (c.take_turns.ensures.grows t) c.take_turns.ensures.ends

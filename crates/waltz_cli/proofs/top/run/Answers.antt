@@ -28,7 +28,7 @@ pub returns-in-Err-clause-register : goal.returns-in-Err-clause-register
 returns-in-Err-clause-register g c number are = no_register _ _ _ _ _ _ _ _
 
 pub returns-in-Err-clause-server : goal.returns-in-Err-clause-server
-returns-in-Err-clause-server g c s are = no_server _ _ _ _ _ _ _
+returns-in-Err-clause-server g c s are = no_server _ _ _ _ _ _ _ _
 
 pub returns-in-Err-clause-usage : goal.returns-in-Err-clause-usage
 returns-in-Err-clause-usage g c none = inr (inl (refl, Appends-nothing _))
@@ -94,6 +94,7 @@ returns-in-Ok-Some-clause-server g c s are =
     let a = (one_command _ c.in-Ok-Some.command (commands.Server s) (some_of c.in-Ok-Some.field-0 c.in-Ok-Some.command _ _ c.in-Ok-Some.field-0-is c.in-Ok-Some.ensures.read) are) in
     let Served : Post → Type 0 = λ p. ServesPartition g.L.Link.tells g.P.Port.tells p
     (g.L.Link.transcript c.args.link.now) (g.L.Link.transcript c.serve.new.link)
+    (g.L.Link.faults c.args.link.now) (g.L.Link.faults c.serve.new.link)
     (g.P.Port.coming c.args.port.now) (g.P.Port.coming c.serve.new.port)
     (g.P.Port.answers c.args.port.now) (g.P.Port.answers c.serve.new.port)
     (g.W.Sink.contents c.args.sink.now) (g.W.Sink.contents c.serve.new.sink) c.serve.result in
