@@ -1,10 +1,10 @@
 -- What each reply keeps of a server's state, a drive keeps.
-use Rattle.std.proofs.Common.{◌≡◌, ℕ, ◌+◌, ◌≤◌, Bool, true, false, List, inl, inr, refl, sym, subst, arith}
+use Rattle.std.proofs.Common.{ℕ, ◌+◌, ◌≤◌, Bool, true, false, List, sym, subst, arith}
 use Rattle.proto_model.specs.declared.message.FromNode.{FromNode}
 use Rattle.proto_model.specs.Servers.{Config, ServerState, server_after}
 use Rattle.server_loop.specs.declared.awaiting.Answer.{Answer}
 use Rattle.server_loop.specs.declared.awaiting.Answer.TheVariants as answer
-use Rattle.server_loop.specs.Drives.{Driving, IsVisit, IsInRound, AreRounds, IsDrive, at_start, visited, none, round, state_after}
+use Rattle.server_loop.specs.Drives.{Driving, IsVisit, IsInRound, AreRounds, at_start, visited, none, round, state_after}
 
 -- it lasts over every reply of a node
 abbrev pub Lasts : Config → (ServerState → Type 0) → Type 0

@@ -4,3 +4,4 @@ pub mod Young
 pub mod NoQuorum
 pub mod Recovered
 pub mod Winning
+pub mod Sanity

@@ -1,5 +1,5 @@
 -- A recovery that ends before the server runs.
-use Rattle.std.proofs.Common.{◌≡◌, ℕ, zero, suc, ◌+◌, ◌-◌, ◌^◌, ◌<◌, ◌≤◌, ◌⊎◌, nat_lt, nat_le, ◌==◌, not, if◌then◌else◌, Bool, true, false, List, [], ◌∷◌, length, take, drop, get_or, Option, Some, None, refl, sym, ap, subst, ◌∙◌, inl, inr, arith}
+use Rattle.std.proofs.Common.{◌≡◌, ℕ, zero, suc, ◌-◌, ◌<◌, ◌≤◌, nat_lt, nat_le, ◌==◌, not, if◌then◌else◌, Bool, true, false, List, [], ◌∷◌, length, take, Option, Some, None, refl, sym, ap, subst, ◌∙◌, inl, inr, arith}
 use Rattle.std.proofs.lemmas.Bool.Decides.{nat_tests}
 use Rattle.io_core.specs.Links.{Exchange}
 use Rattle.proto_model.specs.declared.message.Report.{Report}
@@ -9,12 +9,10 @@ use Rattle.proto_model.specs.declared.message.ToNode.{ToNode}
 use Rattle.proto_model.specs.Quorums.{count, quorum}
 use Rattle.proto_model.specs.Choices.{recovery_choice, best, better, beats}
 use Rattle.proto_model.specs.Servers.{Config, ServerState, drawn, chosen_len, chosen, is_of}
-use Rattle.proto_model.specs.Sending.{next_message, message_in, opening_message, fetching_message, chosen_message, append_message, repair_message}
+use Rattle.proto_model.specs.Sending.{next_message, message_in, append_message, repair_message}
 use Rattle.proto_model.proofs.TableLemmas.{either}
 use Rattle.server_loop.specs.declared.driving.Out.{Out}
-use Rattle.server_loop.specs.declared.awaiting.Answer.{Answer}
-use Rattle.server_loop.specs.declared.awaiting.Answer.TheVariants as answer
-use Rattle.server_loop.specs.Drives.{Driving, driving, IsVisit, IsInRound, AreRounds, IsDrive, at_start, visited, none, round, is_in, is_closed, state_after}
+use Rattle.server_loop.specs.Drives.{Driving, driving, IsDrive, is_in, is_closed}
 use Rattle.drive_law.specs.Causes.{IsYoung, AreWithin, FewTakePart, ChosenIsOut, IsRecovery, NoQuorumHasItsCause}
 use Rattle.drive_law.proofs.Kept.{Lasts, round_keeps, rounds_keep}
 use Rattle.drive_law.proofs.Quiet.{IsQuiet, quiet, if_none, adopted_row, some_repair, counts}

@@ -1,5 +1,5 @@
 -- A round in which nothing is sent.
-use Rattle.std.proofs.Common.{◌≡◌, ℕ, zero, suc, ◌+◌, ◌-◌, ◌^◌, ◌<◌, ◌≤◌, ◌⊎◌, ◌||◌, ◌&&◌, not, nat_le, nat_lt, if◌then◌else◌, Bool, true, false, List, length, Option, Some, None, refl, sym, ap, subst, ◌∙◌, inl, inr, arith}
+use Rattle.std.proofs.Common.{◌≡◌, ℕ, zero, suc, ◌+◌, ◌<◌, ◌≤◌, ◌⊎◌, ◌||◌, ◌&&◌, not, nat_le, nat_lt, if◌then◌else◌, Bool, true, false, List, length, Option, Some, None, refl, sym, subst, ◌∙◌, inl, inr, arith}
 use Rattle.std.proofs.lemmas.Bool.Decides.{nat_tests}
 use Rattle.std.proofs.lemmas.Bool.{cases_eq}
 use Rattle.proto_model.specs.declared.message.Phase.{Phase}
@@ -8,7 +8,7 @@ use Rattle.proto_model.specs.declared.message.ToNode.{ToNode}
 use Rattle.proto_model.specs.Quorums.{count, quorum, reached}
 use Rattle.proto_model.specs.Servers.{Config, ServerState, chosen_len, commit_mark, holds}
 use Rattle.proto_model.specs.Sending.{next_message, message_in, chosen_message, append_message, repair_message}
-use Rattle.server_loop.specs.Drives.{Driving, IsInRound, IsDrive, IsVisit, at_start, visited, is_in, is_closed}
+use Rattle.server_loop.specs.Drives.{Driving, IsInRound, IsVisit, at_start, visited, is_in, is_closed}
 use Rattle.drive_law.specs.Causes.{PendingHasItsCause}
 
 -- it takes no part, or there is no message for it

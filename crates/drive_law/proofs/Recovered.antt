@@ -1,5 +1,5 @@
 -- A server that runs after its recovery has the chosen log.
-use Rattle.std.proofs.Common.{◌≡◌, ◌≢◌, ℕ, ◌+◌, ◌-◌, ◌≤◌, max, nat_lt, nat_le, ◌==◌, ◌&&◌, not, if◌then◌else◌, Bool, true, false, List, [], ◌∷◌, ◌++◌, length, take, Option, Some, None, refl, ap, sym, subst, ◌∙◌, inl, inr, arith, length-append}
+use Rattle.std.proofs.Common.{◌≡◌, ℕ, ◌+◌, ◌-◌, ◌≤◌, nat_lt, nat_le, ◌==◌, ◌&&◌, not, if◌then◌else◌, Bool, true, false, List, [], ◌∷◌, ◌++◌, length, take, Option, Some, None, refl, ap, sym, ◌∙◌, inl, inr, arith, length-append}
 use Rattle.tx_model.specs.declared.record.Record.{Record}
 use Rattle.tx_model.specs.Records.{first_id}
 use Rattle.proto_model.specs.declared.message.Phase.{Phase}
@@ -8,15 +8,15 @@ use Rattle.proto_model.specs.declared.message.Report.{Report}
 use Rattle.proto_model.specs.declared.message.FromNode.{FromNode}
 use Rattle.proto_model.specs.declared.message.FromNode.TheVariants.{Opened, Stale, Unopened, Records, Staged, StageAt, Adopted, Acked, Gap, NotAdopted, LowSet}
 use Rattle.proto_model.specs.Tables.{put}
-use Rattle.proto_model.specs.Quorums.{quorum, count}
+use Rattle.proto_model.specs.Quorums.{quorum}
 use Rattle.proto_model.specs.Choices.{recovery_choice}
-use Rattle.proto_model.specs.Servers.{Config, ServerState, drawn, chosen, chosen_len, length_of, commit_mark, has_fetched, is_heard, phase_reported, with_choice, reported_by, with_fetched, takes_records, takes_ack, answered, begun, acked_by, after_report, after_records, after_staged, after_ack, after_low, after_stale, received, server_after}
+use Rattle.proto_model.specs.Servers.{Config, ServerState, drawn, chosen_len, length_of, commit_mark, has_fetched, is_heard, phase_reported, with_choice, reported_by, with_fetched, takes_records, takes_ack, answered, begun, acked_by, after_report, after_records, after_staged, after_ack, after_low, after_stale, received}
 use Rattle.proto_model.proofs.TableLemmas.{either, if_each}
 use Rattle.session_recovery.specs.Sound.{has_chosen}
 use Rattle.session_recovery.proofs.Choosing.{choice-append, chosen_among}
-use Rattle.session_recovery.proofs.SoundSteps.{and_true, repair_chosen, fresh_choice, repaired_row, begun_repair, fetching_row, records_taken, ack_taken}
+use Rattle.session_recovery.proofs.SoundSteps.{and_true, repair_chosen, fresh_choice, repaired_row, fetching_row, ack_taken}
 use Rattle.server_loop.specs.Drives.{Driving, driving, IsDrive, is_closed}
-use Rattle.drive_law.specs.Causes.{HasChosenLog, IsRecovery, RecoveredLogIsChosen}
+use Rattle.drive_law.specs.Causes.{HasChosenLog, RecoveredLogIsChosen}
 use Rattle.drive_law.proofs.Kept.{Lasts, round_keeps, rounds_keep}
 
 -- ---- a report

@@ -3,7 +3,6 @@ use Rattle.std.proofs.Common.{◌≡◌, ℕ, zero, suc, ◌+◌, ◌<◌, ◌�
 use Rattle.std.proofs.lemmas.Bool.{cases_eq}
 use Rattle.io_core.specs.Links.{Heard, Exchange}
 use Rattle.io_core.specs.Links as links
-use Rattle.wire_codec.specs.declared.message.Message.{Message}
 use Rattle.wire_codec.specs.declared.message.Message.TheVariants as of
 use Rattle.wire_codec.specs.declared.message.ToRegister.{ToRegister}
 use Rattle.wire_codec.specs.declared.message.ToRegister.TheVariants as to
@@ -15,12 +14,12 @@ use Rattle.session_register.specs.declared.register.Cas.{Cas}
 use Rattle.session_register.specs.declared.register.Cas.TheVariants as cas
 use Rattle.session_register.specs.declared.register.RegisterFault.{RegisterFault}
 use Rattle.session_register.specs.declared.register.RegisterFault.TheVariants as faults
-use Rattle.session_register.specs.Registers.{last_session, cas_answer, number_after}
+use Rattle.session_register.specs.Registers.{last_session, number_after}
 use Rattle.server_loop.specs.declared.exchanges.Reply.{Reply}
 use Rattle.server_loop.specs.declared.exchanges.Reply.TheVariants as replies
 use Rattle.server_loop.specs.Exchanges.{IsReply}
 use Rattle.server_loop.specs.Registers.{outcome_in, message_of, made_of, IsCasAt, IsDraw, unread, tried, no_memory}
-use Rattle.drive_law.specs.Honest.{cas_message, number_reply, number_then, Taken, IsHonest, IsAt, IsWonAt, ASessionIsWonOnce, IsExchangeOf, EndsAt, IsWonByUser, called, drawn, ASessionOverLinksIsWonOnce}
+use Rattle.drive_law.specs.Honest.{cas_message, number_reply, number_then, Taken, IsHonest, IsWonAt, ASessionIsWonOnce, EndsAt, IsWonByUser, called, drawn, ASessionOverLinksIsWonOnce}
 
 -- ---- one request
 

@@ -12,7 +12,7 @@ use Rattle.proto_model.specs.declared.message.FromNode.TheVariants.{Opened, Stal
 use Rattle.proto_model.specs.Tables.{put}
 use Rattle.proto_model.specs.Quorums.{count, quorum}
 use Rattle.proto_model.specs.Choices.{recovery_choice}
-use Rattle.proto_model.specs.Servers.{Config, ServerState, drawn, chosen_len, chosen, commit_mark, is_of, is_fetching, is_active, is_heard, has_fetched, phase_reported, with_choice, reported_by, with_fetched, takes_records, takes_ack, answered, begun, acked_by, after_records, after_staged, after_ack, after_low, after_stale, received, server_after}
+use Rattle.proto_model.specs.Servers.{Config, ServerState, drawn, chosen_len, chosen, commit_mark, is_of, is_fetching, is_heard, has_fetched, phase_reported, with_choice, reported_by, takes_records, takes_ack, answered, begun, acked_by, after_records, after_staged, after_ack, after_low, after_stale, received, server_after}
 use Rattle.proto_model.proofs.TableLemmas.{either, if_each}
 use Rattle.session_recovery.proofs.Choosing.{chosen_among}
 use Rattle.drive_law.specs.Causes.{IsYoung, AreWithin, is_early}

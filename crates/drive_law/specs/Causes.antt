@@ -1,5 +1,5 @@
 -- Why a drive leaves a record uncommitted, or a server that is not running.
-use Rattle.std.specs.Prelude.{◌≡◌, ◌⊎◌, ℕ, ◌-◌, ◌^◌, ◌<◌, ◌≤◌, Bool, true, false, List, [], ◌∷◌, length, Option, Some, ⊤}
+use Rattle.std.specs.Prelude.{◌≡◌, ℕ, ◌<◌, ◌≤◌, Bool, true, false, List, [], ◌∷◌, length, Some, ⊤}
 use Rattle.io_core.specs.Links.{Exchange}
 use Rattle.proto_model.specs.declared.message.Report.{Report}
 use Rattle.proto_model.specs.declared.message.Phase.{Phase}
