@@ -18,7 +18,7 @@ use Rattle.session_register.specs.Registers.{last_session, number_after}
 use Rattle.server_loop.specs.declared.exchanges.Reply.{Reply}
 use Rattle.server_loop.specs.declared.exchanges.Reply.TheVariants as replies
 use Rattle.server_loop.specs.Exchanges.{IsReply}
-use Rattle.server_loop.specs.Registers.{outcome_in, message_of, made_of, IsCasAt, IsDraw, unread, tried, no_memory}
+use Rattle.server_loop.specs.Registers.{outcome_in, message_of, made_of, IsAsked, IsCasAt, IsDraw, answered, no_memory, unread, tried}
 use Rattle.drive_law.specs.Honest.{cas_message, number_reply, number_then, Taken, IsHonest, IsWonAt, ASessionIsWonOnce, EndsAt, IsWonByUser, called, drawn, ASessionOverLinksIsWonOnce}
 
 -- ---- one request
@@ -146,19 +146,26 @@ heard_same heard bytes s x read is replied =
     let won : SpellsMessage bytes (of.FromRegister (from.Won s)) = subst (λ (h : Heard). IsReply h (replies.Message (of.FromRegister (from.Won s)))) is read in
     replied_same x.reply (from.Won s) (one_spelling bytes bytes [] [] (of.FromRegister x.reply) (of.FromRegister (from.Won s)) replied won refl).0
 
-call_won : (taken : List Taken) (i s port number : ℕ) (old new : List Exchange) → IsCasAt port number old new (Ok (cas.Won s)) → EndsAt taken i new → IsWonAt taken i s
-call_won taken i s port number old new call end =
+answer_won : (taken : List Taken) (i s port number : ℕ) (old new : List Exchange) → IsAsked Cas port (to.Cas number) (outcome_in number) old new (Ok (cas.Won s)) → EndsAt taken i new → IsWonAt taken i s
+answer_won taken i s port number old new call end =
     let x : Exchange = record { port = port; sent = message_frame (of.ToRegister (to.Cas number)); heard = call.exchanged.heard } in
     let same : x ≡ end.last = same_last old end.past x end.last (sym call.exchanged.past ∙ end.ends) in
     let read = subst (λ (r : Reply). IsReply call.exchanged.heard r) (won_reply number s call.reply call.made) call.exchanged.read in
     let heard : call.exchanged.heard ≡ links.Reply end.exchanged.bytes = ap (λ (e : Exchange). e.heard) same ∙ end.exchanged.heard in
     (end.was, end.at, heard_same call.exchanged.heard end.exchanged.bytes s end.was read heard end.exchanged.replied)
 
+asked_won : (taken : List Taken) (i s port number : ℕ) (old new : List Exchange) (result : Result Cas RegisterFault) → result ≡ Ok (cas.Won s) → IsCasAt port number old new result → EndsAt taken i new → IsWonAt taken i s
+asked_won taken i s port number old _ _ is (answered new result call) end =
+    answer_won taken i s port number old new (subst (λ (r : Result Cas RegisterFault). IsAsked Cas port (to.Cas number) (outcome_in number) old new r) is call) end
+asked_won taken i s port number old _ _ is (no_memory new call) end = absurd (let e : Err faults.Memory ≡ Ok (cas.Won s) = is in cc)
+
+call_won : (taken : List Taken) (i s port number : ℕ) (old new : List Exchange) → IsCasAt port number old new (Ok (cas.Won s)) → EndsAt taken i new → IsWonAt taken i s
+call_won taken i s port number old new call end = asked_won taken i s port number old new (Ok (cas.Won s)) refl call end
+
 draw_won : (taken : List Taken) (i s port : ℕ) (old new : List Exchange) (result : Result Cas RegisterFault) → result ≡ Ok (cas.Won s) → IsDraw port old new result → EndsAt taken i new → IsWonAt taken i s
 draw_won taken i s port old _ _ is (unread new fault asked) end = absurd (let e : Err fault ≡ Ok (cas.Won s) = is in cc)
 draw_won taken i s port old _ _ is (tried between new number result asked call) end =
-    call_won taken i s port number between new (subst (λ (r : Result Cas RegisterFault). IsCasAt port number between new r) is call) end
-draw_won taken i s port old _ _ is (no_memory new) end = absurd (let e : Err faults.Memory ≡ Ok (cas.Won s) = is in cc)
+    asked_won taken i s port number between new result is call end
 
 user_won : (taken : List Taken) (i s : ℕ) → IsWonByUser taken i s → IsWonAt taken i s
 user_won taken i s (called port number old new call end) = call_won taken i s port number old new call end

@@ -1,5 +1,5 @@
 -- A node that adopted acknowledged the chosen log, whatever replies come.
-use Rattle.std.proofs.Common.{◌≡◌, ◌≢◌, ℕ, ◌+◌, ◌≤◌, ◌⊎◌, max, nat_lt, nat_le, ◌==◌, ◌&&◌, not, if◌then◌else◌, Bool, true, false, List, [], ◌∷◌, ◌++◌, length, ◌-◌, Option, Some, None, inl, inr, refl, ap, sym, subst, ◌∙◌, arith, length-append}
+use Rattle.std.proofs.Common.{◌≡◌, ℕ, ◌+◌, ◌≤◌, max, nat_lt, nat_le, ◌&&◌, not, Bool, true, false, List, [], ◌∷◌, ◌++◌, length, ◌-◌, Option, Some, None, inl, inr, refl, ap, sym, ◌∙◌, arith, length-append}
 use Rattle.std.proofs.lemmas.Bool.Decides.{nat_tests}
 use Rattle.std.proofs.lemmas.Bool.{cases_eq}
 use Rattle.tx_model.specs.declared.record.Record.{Record}
@@ -13,14 +13,14 @@ use Rattle.proto_model.specs.declared.message.FromNode.TheVariants.{Opened, Stal
 use Rattle.proto_model.specs.declared.refusal.Refusal.{Refusal}
 use Rattle.proto_model.specs.Tables.{put}
 use Rattle.proto_model.specs.Quorums.{quorum}
-use Rattle.proto_model.specs.Servers.{Config, ServerState, drawn, idle_server, chosen_len, chosen, length_of, commit_mark, is_active, has_fetched, is_heard, takes_records, takes_ack, with_choice, reported_by, with_fetched, answered, begun, acked_by, after_report, after_records, after_staged, after_ack, after_low, after_stale, received, server_after}
+use Rattle.proto_model.specs.Servers.{Config, ServerState, drawn, idle_server, chosen_len, length_of, commit_mark, has_fetched, is_heard, takes_records, takes_ack, with_choice, reported_by, answered, begun, acked_by, after_report, after_records, after_staged, after_ack, after_low, after_stale, received, server_after}
 use Rattle.proto_model.specs.declared.client_message.ToServer.{ToServer}
 use Rattle.proto_model.specs.declared.client_message.ToServer.TheVariants as to_server
 use Rattle.proto_model.specs.Serving.{served_after, after_append, assigned, append_refusal, if_taken}
 use Rattle.proto_model.proofs.TableLemmas.{either, if_each}
 use Rattle.session_recovery.specs.Sound.{IsSound, has_chosen}
 use Rattle.session_recovery.proofs.Choosing.{choice-append}
-use Rattle.server_host.specs.Lacking.{IsCaughtUp, AreCaughtUp}
+use Rattle.server_host.specs.Lacking.{AreCaughtUp}
 use Rattle.server_host.proofs.Lacking.{put_here, put_there}
 
 none_adopted : {P : Type 0} → false ≡ true → P

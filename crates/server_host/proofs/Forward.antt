@@ -1,10 +1,9 @@
 -- Each awaited reply to a node's next message lessens what the nodes lack.
-use Rattle.std.proofs.Common.{◌≡◌, ◌≢◌, ℕ, zero, suc, ◌+◌, ◌-◌, ◌*◌, ◌^◌, ◌<◌, ◌≤◌, max, min, nat_lt, nat_le, ◌==◌, ◌&&◌, not, if◌then◌else◌, Bool, true, false, List, [], ◌∷◌, ◌++◌, length, take, drop, Option, Some, None, refl, ap, sym, subst, ◌∙◌, arith, lit<, length-append, length-drop}
+use Rattle.std.proofs.Common.{◌≡◌, ℕ, ◌+◌, ◌-◌, ◌<◌, ◌≤◌, max, min, nat_lt, nat_le, ◌==◌, ◌&&◌, not, if◌then◌else◌, Bool, true, false, List, [], ◌∷◌, ◌++◌, length, take, drop, Option, Some, None, refl, ap, subst, arith, length-append, length-drop}
 use Rattle.std.proofs.lemmas.Bool.Decides.{nat_tests}
 use Rattle.std.proofs.lemmas.List.{length-take}
 use Rattle.tx_model.specs.declared.record.Record.{Record}
 use Rattle.tx_model.specs.Records.{IsBatch, RiseByOne, first_id}
-use Rattle.tx_model.specs.Spelling.{IsCount}
 use Rattle.tx_model.proofs.Batches.{RiseByOne-take, RiseByOne-drop}
 use Rattle.proto_model.specs.declared.message.Phase.{Phase}
 use Rattle.proto_model.specs.declared.message.Phase.TheVariants.{Idle, Opening, Fetching, Repairing, Running, Closed}
@@ -14,15 +13,14 @@ use Rattle.proto_model.specs.declared.message.ToNode.TheVariants.{Open, Fetch, S
 use Rattle.proto_model.specs.declared.message.FromNode.{FromNode}
 use Rattle.proto_model.specs.declared.message.FromNode.TheVariants.{Opened, Stale, Unopened, Records, Staged, StageAt, Adopted, Acked, Gap, NotAdopted, LowSet}
 use Rattle.proto_model.specs.Tables.{put}
-use Rattle.proto_model.specs.Quorums.{quorum}
-use Rattle.proto_model.specs.Servers.{Config, ServerState, chosen, chosen_len, commit_mark, is_of, is_active, is_fetching, is_heard, has_fetched, takes_records, takes_ack, with_choice, reported_by, with_fetched, answered, begun, acked_by, after_report, after_records, after_staged, after_ack, after_low, received, server_after, session_of}
-use Rattle.proto_model.specs.Sending.{next_message, message_in, opening_message, fetching_message, chosen_message, append_message, repair_message}
+use Rattle.proto_model.specs.Servers.{Config, ServerState, chosen, chosen_len, commit_mark, is_of, is_active, is_fetching, is_heard, has_fetched, takes_records, takes_ack, with_choice, reported_by, with_fetched, answered, begun, acked_by, after_ack, received, server_after, session_of}
+use Rattle.proto_model.specs.Sending.{message_in, opening_message, fetching_message, chosen_message, append_message, repair_message}
 use Rattle.proto_model.specs.Validity.{IsValidFromNode}
 use Rattle.proto_model.proofs.TableLemmas.{if_each}
 use Rattle.proto_model.proofs.SaneSteps.{log_count}
 use Rattle.session_recovery.specs.Sound.{IsSound}
 use Rattle.server_loop.specs.Drives.{last_place, is_awaited, MovesForward}
-use Rattle.server_host.specs.Lacking.{bound, node_lack, lack_at, lack_to, lack_of, IsCaughtUp, AreCaughtUp}
+use Rattle.server_host.specs.Lacking.{bound, node_lack, lack_at, lack_to, lack_of, AreCaughtUp}
 use Rattle.server_host.proofs.Lacking.{same_to, less_at, put_here, put_there}
 
 -- ---- tests

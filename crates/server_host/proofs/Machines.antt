@@ -1,8 +1,8 @@
 -- A machine's calls keep what is true of it.
-use Rattle.std.proofs.Common.{◌≡◌, ◌≢◌, ℕ, ◌+◌, ◌-◌, ◌<◌, ◌≤◌, ◌==◌, nat_lt, nat_le, if◌then◌else◌, Bool, true, false, List, [], ◌∷◌, ◌++◌, length, Option, Some, None, Result, Ok, Err, refl, ap, sym, subst, ◌∙◌, arith, length-append}
+use Rattle.std.proofs.Common.{◌≡◌, ◌≢◌, ℕ, ◌+◌, ◌-◌, ◌≤◌, ◌==◌, nat_lt, nat_le, if◌then◌else◌, Bool, true, false, [], ◌∷◌, ◌++◌, length, Option, Some, None, Result, Ok, Err, refl, ap, sym, subst, ◌∙◌, arith, length-append}
 use Rattle.std.proofs.lemmas.Bool.Decides.{nat_tests}
 use Rattle.std.specs.Prelude.{option_to_list, IfOk, IfNone, OnOk, OnErr}
-use Rattle.tx_model.specs.Records.{IsPlace, IsRecord}
+use Rattle.tx_model.specs.Records.{IsPlace}
 use Rattle.tx_model.specs.Transactions.{Transaction, IsTransaction}
 use Rattle.proto_model.specs.declared.message.Phase.{Phase}
 use Rattle.proto_model.specs.declared.message.Phase.TheVariants.{Idle, Opening, Fetching, Repairing, Running, Closed}
@@ -13,7 +13,7 @@ use Rattle.proto_model.specs.declared.client_message.ToServer.{ToServer}
 use Rattle.proto_model.specs.declared.client_message.ToServer.TheVariants as to_server
 use Rattle.proto_model.specs.declared.client_message.FromServer.{FromServer}
 use Rattle.proto_model.specs.Servers.{Config, ServerState, drawn, idle_server, commit_mark, is_active, is_heard, after_staged, received, server_after}
-use Rattle.proto_model.specs.Serving.{last_id, window, or_else, no_room, running_refusal, refusal_in, append_refusal, append_answers, after_append, assigned, assigned_record, if_taken, served_after, served_answers}
+use Rattle.proto_model.specs.Serving.{last_id, window, or_else, no_room, running_refusal, refusal_in, append_refusal, append_answers, assigned, assigned_record, if_taken, served_after, served_answers}
 use Rattle.proto_model.specs.Validity.{IsValidFromNode, IsValidToServer}
 use Rattle.proto_model.proofs.TableLemmas.{either, if_each}
 use Rattle.proto_model.proofs.SaneSteps.{log_count}

@@ -1,22 +1,39 @@
--- How a session is drawn, from the two exchanges.
-use Rattle.std.proofs.Common.{◌≢◌, ℕ, List, Result, Ok, Err}
+-- What the register was asked, from the exchange.
+use Rattle.std.proofs.Common.{◌≡◌, ℕ, List, Result, Ok, Err, refl, sym, ap, ◌∙◌}
 use Rattle.io_core.specs.Links.{Exchange}
-use Rattle.session_register.specs.declared.register.Cas.{Cas}
+use Rattle.wire_codec.specs.declared.message.Message.TheVariants as of
+use Rattle.wire_codec.specs.declared.message.ToRegister.{ToRegister}
+use Rattle.wire_codec.specs.declared.message.FromRegister.{FromRegister}
 use Rattle.session_register.specs.declared.register.RegisterFault.{RegisterFault}
-use Rattle.session_register.specs.declared.register.RegisterFault.TheVariants.{Failed, Garbled, Memory}
-use Rattle.server_loop.specs.Registers.{IsReadAt, IsCasAt, IsDraw, unread, tried, no_memory}
+use Rattle.session_register.specs.declared.register.RegisterFault.TheVariants.{Memory}
+use Rattle.server_loop.specs.declared.exchanges.Reply.{Reply}
+use Rattle.server_loop.specs.Exchanges.{ExchangesOf}
+use Rattle.server_loop.specs.Registers.{message_of, made_of, Asks, answered, no_memory}
 
--- no number
-abbrev pub unanswered : RegisterFault → Result ℕ RegisterFault
-unanswered fault = Err fault
+made_all : (r : Result FromRegister RegisterFault) → made_of Ok r ≡ r
+made_all (Ok m) = refl
+made_all (Err fault) = refl
 
-pub draw_unread : (port : ℕ) (old new : List Exchange) (fault : RegisterFault) → (unanswered fault ≢ Err Memory → IsReadAt port old new (unanswered fault)) → IsDraw port old new (Err fault)
-draw_unread port old new Failed h = unread new Failed (h (λ e. cc))
-draw_unread port old new Garbled h = unread new Garbled (h (λ e. cc))
-draw_unread port old new Memory h = no_memory new
+-- it replied
+pub asked_reply : {E : Type 0} (port : ℕ) (m : ToRegister) (old new : List Exchange) (reply : Reply) (exchanged : Result Reply E) (result : Result FromRegister RegisterFault) → exchanged ≡ Ok reply →
+    ExchangesOf port (of.ToRegister m) old new exchanged → result ≡ message_of reply → Asks FromRegister port m Ok old new result
+asked_reply port m old new reply exchanged result e h is = answered new result (record { reply = reply; exchanged = rw e at h; made = is ∙ sym (made_all (message_of reply)) })
 
-pub draw_tried : (port : ℕ) (old between new : List Exchange) (number : ℕ) (result : Result Cas RegisterFault) → IsReadAt port old between (Ok number) → (result ≢ Err Memory → IsCasAt port number between new result) → IsDraw port old new result
-draw_tried port old between new number (Ok answer) read h = tried between new number (Ok answer) read (h (λ e. cc))
-draw_tried port old between new number (Err Failed) read h = tried between new number (Err Failed) read (h (λ e. cc))
-draw_tried port old between new number (Err Garbled) read h = tried between new number (Err Garbled) read (h (λ e. cc))
-draw_tried port old between new number (Err Memory) read h = no_memory new
+-- memory ran out
+pub asked_none : {E : Type 0} (port : ℕ) (m : ToRegister) (old new : List Exchange) (error : E) (exchanged : Result Reply E) → exchanged ≡ Err error →
+    ExchangesOf port (of.ToRegister m) old new exchanged → Asks FromRegister port m Ok old new (Err Memory)
+asked_none port m old new error exchanged e h = no_memory new (rw e at h)
+
+-- what is made of a message of the register
+pub asks_made : {A : Type 0} (port : ℕ) (m : ToRegister) (make : FromRegister → Result A RegisterFault) (old new : List Exchange) (x : FromRegister) (asked : Result FromRegister RegisterFault) (result : Result A RegisterFault) → asked ≡ Ok x →
+    Asks FromRegister port m Ok old new asked → result ≡ make x → Asks A port m make old new result
+asks_made port m make old _ x _ result e (answered new asked h) is =
+    answered new result (record { reply = h.reply; exchanged = h.exchanged; made = is ∙ sym (ap (made_of make) (sym (made_all (message_of h.reply)) ∙ (sym h.made ∙ e))) })
+asks_made port m make old _ x _ result e (no_memory new h) is = absurd (let f : Err Memory ≡ Ok x = e in cc)
+
+-- and of none
+pub asks_fault : {A : Type 0} (port : ℕ) (m : ToRegister) (make : FromRegister → Result A RegisterFault) (old new : List Exchange) (fault : RegisterFault) (asked : Result FromRegister RegisterFault) → asked ≡ Err fault →
+    Asks FromRegister port m Ok old new asked → Asks A port m make old new (Err fault)
+asks_fault port m make old _ fault _ e (answered new asked h) =
+    answered new (Err fault) (record { reply = h.reply; exchanged = h.exchanged; made = sym (ap (made_of make) (sym (made_all (message_of h.reply)) ∙ (sym h.made ∙ e))) })
+asks_fault port m make old _ fault _ e (no_memory new h) = let f : fault ≡ Memory = cc in rw f (no_memory new h)

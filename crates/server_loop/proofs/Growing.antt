@@ -1,21 +1,20 @@
 -- The exchanges of before stay, whatever a server does.
-use Rattle.std.proofs.Common.{◌≡◌, ◌≢◌, ℕ, Bool, true, false, List, [], ◌∷◌, ◌++◌, Option, None, Some, Ok, Err, refl, sym, ap, ◌∙◌, inl, inr, append_assoc}
+use Rattle.std.proofs.Common.{◌≡◌, ℕ, Bool, true, false, List, [], ◌∷◌, ◌++◌, Option, None, Some, Ok, sym, ap, ◌∙◌, inl, inr, append_assoc}
 use Rattle.std.proofs.lemmas.List.{append-nil}
 use Rattle.io_core.specs.Links.{Exchange}
 use Rattle.proto_model.specs.declared.client_message.ToServer.{ToServer}
 use Rattle.proto_model.specs.declared.client_message.FromServer.{FromServer}
 use Rattle.proto_model.specs.Servers.{Config}
-use Rattle.proto_model.specs.Serving.{served_answers}
+use Rattle.proto_model.specs.Serving.{served_after, served_answers}
 use Rattle.wire_codec.specs.declared.message.Message.{Message}
 use Rattle.wire_codec.specs.declared.message.Message.TheVariants as of
 use Rattle.wire_codec.specs.declared.message.Control.TheVariants.{Bye, Done, No}
-use Rattle.server_loop.specs.declared.driving.Out.{Out}
 use Rattle.server_loop.specs.declared.end.End.{End}
 use Rattle.server_loop.specs.declared.end.End.TheVariants as ends
 use Rattle.server_loop.specs.Exchanges.{Grows}
-use Rattle.server_loop.specs.Drives.{Driving, IsVisit, IsInRound, AreRounds, IsDrive, EndsDrive, at_start, visited, none, round}
-use Rattle.server_loop.specs.Serving.{Standing, standing, IsFreshDrive, IsServedBy, IsServed, IsReplied}
-use Rattle.server_loop.specs.Sessions.{Post, Begins, no_memory, Opens, unbegun, begun}
+use Rattle.server_loop.specs.Drives.{Driving, driving, IsVisit, IsCutVisit, IsInRound, IsCutRound, AreRounds, IsDrive, IsCutDrive, EndsDrive, at_start, visited, none, round}
+use Rattle.server_loop.specs.Serving.{Standing, all_in, IsServedBy, IsUnserved, IsReplied, IsUnreplied}
+use Rattle.server_loop.specs.Sessions.{Post, Begins, Opens, begun}
 use Rattle.server_loop.specs.Ends.{IsServingEnd, IsUnannounced}
 
 pub stays : (list : List Exchange) → Grows list list
@@ -69,10 +68,33 @@ reply_grows c ports (Some (of.ToRegister _)) reply a b h = same_grows a b h.1
 reply_grows c ports (Some (of.FromRegister _)) reply a b h = same_grows a b h.1
 reply_grows c ports None reply a b h = same_grows a b h.1
 
--- ---- how a run opens
+-- ---- where memory runs out
 
-pub left_open : (at : Post) (old new : List Exchange) (a : Standing) → a.past ≡ new → Opens at old new ends.Memory
-left_open at old new a e = unbegun a ends.Memory (no_memory a) (sym e)
+cut_visit_grows : (c : Config) (ports : List ℕ) (i : ℕ) (a : Driving) (past : List Exchange) → IsCutVisit c ports i a past → Grows a.past past
+cut_visit_grows c ports i a past (inl same) = rw same (stays a.past)
+cut_visit_grows c ports i a past (inr h) = record { more = _; are = h.sent.1 }
+
+cut_round_grows : (c : Config) (ports : List ℕ) (a : Driving) (past : List Exchange) → IsCutRound c ports a past → Grows a.past past
+cut_round_grows c ports a past h = grows_both a.past h.at.past past (round_grows c ports a h.at _ _ h.round) (cut_visit_grows c ports _ h.at past h.cut)
+
+cut_drive_grows : (c : Config) (ports : List ℕ) (a : Driving) (past : List Exchange) → IsCutDrive c ports a past → Grows a.past past
+cut_drive_grows c ports a past h = grows_both a.past h.before.past past (rounds_grow c ports a h.before h.rounds) (cut_round_grows c ports h.before past h.cut)
+
+unserved_grows : (c : Config) (ports : List ℕ) (m : ToServer) (a : Standing) (past : List Exchange) → IsUnserved c ports m a past → Grows a.past past
+unserved_grows c ports m a past (inl same) = rw same (stays a.past)
+unserved_grows c ports m a past (inr h) = cut_drive_grows c ports (driving (served_after c a.state m) all_in a.past) past h.1
+
+pub unreplied_grows : (c : Config) (ports : List ℕ) (asked : Option Message) (a : Standing) (past : List Exchange) → IsUnreplied c ports asked a past → Grows a.past past
+unreplied_grows c ports (Some (of.ToServer m)) a past h = unserved_grows c ports m a past h
+unreplied_grows c ports (Some (of.ToNode _)) a past h = absurd h
+unreplied_grows c ports (Some (of.FromNode _)) a past h = absurd h
+unreplied_grows c ports (Some (of.FromServer _)) a past h = absurd h
+unreplied_grows c ports (Some (of.ToRegister _)) a past h = absurd h
+unreplied_grows c ports (Some (of.FromRegister _)) a past h = absurd h
+unreplied_grows c ports (Some (of.Control _)) a past h = absurd h
+unreplied_grows c ports None a past h = absurd h
+
+-- ---- how a run opens
 
 pub unannounced_opens : (at : Post) (old : List Exchange) (b : Standing) (session : ℕ) (x y : Option (List ℕ)) (first second : List ℕ) (end : End) → Begins at old b (Ok session) →
     IsUnannounced x y first second end → Opens at old b.past end
@@ -88,16 +110,16 @@ unannounced_opens at old b session x y first second ends.Exhausted begins h = ab
 unannounced_opens at old b session x y first second (ends.TakenOver p) begins h = absurd h
 unannounced_opens at old b session x y first second (ends.NoQuorum out) begins h = absurd h
 
-pub served_opens : (at : Post) (old new : List Exchange) (b d : Standing) (session : ℕ) (end : End) → d.past ≡ new → Begins at old b (Ok session) → (end ≢ ends.Memory → Grows b.past new) →
+pub served_opens : (at : Post) (old new : List Exchange) (b : Standing) (session : ℕ) (end : End) → Begins at old b (Ok session) → Grows b.past new →
     IsServingEnd end → Opens at old new end
-served_opens at old new b d session ends.Memory last begins grows h = left_open at old new d last
-served_opens at old new b d session ends.Bye last begins grows h = begun b session ends.Bye begins tt (grows (λ e. cc))
-served_opens at old new b d session ends.Port last begins grows h = begun b session ends.Port begins tt (grows (λ e. cc))
-served_opens at old new b d session ends.Turns last begins grows h = begun b session ends.Turns begins tt (grows (λ e. cc))
-served_opens at old new b d session ends.Peer last begins grows h = begun b session ends.Peer begins tt (grows (λ e. cc))
-served_opens at old new b d session (ends.TakenOver p) last begins grows h = begun b session (ends.TakenOver p) begins tt (grows (λ e. cc))
-served_opens at old new b d session ends.WriteFault last begins grows h = absurd h
-served_opens at old new b d session ends.Register last begins grows h = absurd h
-served_opens at old new b d session ends.Garbled last begins grows h = absurd h
-served_opens at old new b d session ends.Exhausted last begins grows h = absurd h
-served_opens at old new b d session (ends.NoQuorum out) last begins grows h = absurd h
+served_opens at old new b session ends.Memory begins grows h = begun b session ends.Memory begins tt grows
+served_opens at old new b session ends.Bye begins grows h = begun b session ends.Bye begins tt grows
+served_opens at old new b session ends.Port begins grows h = begun b session ends.Port begins tt grows
+served_opens at old new b session ends.Turns begins grows h = begun b session ends.Turns begins tt grows
+served_opens at old new b session ends.Peer begins grows h = begun b session ends.Peer begins tt grows
+served_opens at old new b session (ends.TakenOver p) begins grows h = begun b session (ends.TakenOver p) begins tt grows
+served_opens at old new b session ends.WriteFault begins grows h = absurd h
+served_opens at old new b session ends.Register begins grows h = absurd h
+served_opens at old new b session ends.Garbled begins grows h = absurd h
+served_opens at old new b session ends.Exhausted begins grows h = absurd h
+served_opens at old new b session (ends.NoQuorum out) begins grows h = absurd h

@@ -13,8 +13,8 @@ use Rattle.session_register.specs.declared.register.RegisterFault.{RegisterFault
 use Rattle.session_register.specs.declared.register.RegisterFault.TheVariants as faults
 use Rattle.server_loop.specs.Registers.{IsDraw}
 use Rattle.server_loop.specs.Turns.{Desk, desk}
-use Rattle.server_loop.specs.Serving.{Standing, standing, IsFreshDrive, Serves}
-use Rattle.server_loop.specs.Sessions.{Post, Begins, IsRecovered, Runs, undrawn, unbegun, unheard, unprinted, served, session_of}
+use Rattle.server_loop.specs.Serving.{Standing, standing, IsFreshDrive, IsFreshCut, Serves}
+use Rattle.server_loop.specs.Sessions.{Post, Begins, IsRecovered, IsCutRecovery, Runs, undrawn, unbegun, unheard, unprinted, served, session_of}
 use Rattle.server_loop.specs.Ends.{session_line, listening_line, HasPrinted, IsUnannounced}
 use Rattle.server_loop.proofs.Printing.{all_printed}
 
@@ -32,6 +32,10 @@ drew_none at old b answer end draw e = undrawn b answer end draw (sym e)
 pub recovery : (at : Post) (old between : List Exchange) (b : Standing) (answer : Result Cas RegisterFault) (session : ℕ) (out : List Out) → IsDraw at.register old between answer → Ok session ≡ session_of answer →
     IsFreshDrive at.config at.nodes (standing (drawn session) between) b out → IsRecovered at old b session out
 recovery at old between b answer session out draw e drive = record { between = between; draw = rw (won_of answer session (sym e)) at draw; driven = drive }
+
+pub cut_recovery : (at : Post) (old between new : List Exchange) (answer : Result Cas RegisterFault) (session : ℕ) → IsDraw at.register old between answer → Ok session ≡ session_of answer →
+    IsFreshCut at.config at.nodes (standing (drawn session) between) new → IsCutRecovery at old new session
+cut_recovery at old between new answer session draw e cut = record { between = between; draw = rw (won_of answer session (sym e)) at draw; cut = cut }
 
 -- a run that ends before it serves prints no line but the last
 pub unbegun_run : (at : Post) (old : List Exchange) (coming : List (List ℕ)) (answers : List Answered) (b : Standing) (x : Option (List ℕ)) (end : End) →

@@ -1,5 +1,5 @@
 -- One turn of a server, from its parts.
-use Rattle.std.proofs.Common.{◌≡◌, ℕ, Bool, true, false, List, [], ◌∷◌, ◌++◌, sym, ap, ◌∙◌, Option, inr}
+use Rattle.std.proofs.Common.{◌≡◌, ℕ, Bool, true, false, List, [], ◌∷◌, ◌++◌, sym, ap, ◌∙◌, Option, inr, refl}
 use Rattle.std.specs.Prelude.{MatchOption}
 use Rattle.io_core.specs.Ports.{Answered}
 use Rattle.proto_model.specs.declared.message.Phase.{Phase}
@@ -12,7 +12,7 @@ use Rattle.server_loop.specs.Drives.{is_closed}
 use Rattle.server_loop.specs.declared.end.End.{End}
 use Rattle.server_loop.specs.declared.end.End.TheVariants as ends
 use Rattle.server_loop.specs.Turns.{Desk, desk, IsLeft}
-use Rattle.server_loop.specs.Serving.{Standing, IsReplied, IsServerTurn, GoesOn, EndsBy, end_after}
+use Rattle.server_loop.specs.Serving.{Standing, IsReplied, IsUnreplied, IsServerTurn, GoesOn, EndsBy, unsent, unreplied, ungiven, end_after}
 use Rattle.server_loop.specs.Taking.{Takes, IsUntaken}
 
 -- the calls of `answer` with one more, given or not
@@ -54,7 +54,7 @@ pub untaken_turn : (c : Config) (ports : List ℕ) (coming coming' : List (List 
     EndsBy c ports (desk coming answers s) (desk coming' answers' s) end
 untaken_turn c ports coming coming' answers answers' s ends.Port h same = (h.0, λ i. record { coming = h.1 i; answers = same i; server = s })
 untaken_turn c ports coming coming' answers answers' s ends.Peer h same = λ i. record { coming = h i; answers = same i; server = s }
-untaken_turn c ports coming coming' answers answers' s ends.Memory h same = record { took = inr h; answered = same }
+untaken_turn c ports coming coming' answers answers' s ends.Memory h same = (record { took = inr h; answered = same }, unsent refl)
 untaken_turn c ports coming coming' answers answers' s ends.Bye h same = absurd h
 untaken_turn c ports coming coming' answers answers' s ends.Turns h same = absurd h
 untaken_turn c ports coming coming' answers answers' s ends.Register h same = absurd h
@@ -65,7 +65,19 @@ untaken_turn c ports coming coming' answers answers' s (ends.NoQuorum out) h sam
 untaken_turn c ports coming coming' answers answers' s ends.WriteFault h same = absurd h
 
 -- a request is taken, and there is no memory for its answer
-pub left_turn : (c : Config) (ports : List ℕ) (asked : Option Message) (coming between coming' : List (List ℕ)) (answers before answers' : List Answered) (s s' : Standing) →
+left_turn : (c : Config) (ports : List ℕ) (asked : Option Message) (coming between coming' : List (List ℕ)) (answers before answers' : List Answered) (s s' : Standing) →
     Takes coming between asked → before ≡ answers → coming' ≡ between → answers' ≡ before → IsLeft Standing (desk coming answers s) (desk coming' answers' s')
 left_turn c ports asked coming between coming' answers before answers' s s' taken same same' kept =
     record { took = inr (taken.request, rw same' taken.took); answered = kept ∙ same }
+
+-- there is none for its reply
+pub unreplied_turn : (c : Config) (ports : List ℕ) (asked : Option Message) (coming between : List (List ℕ)) (answers before : List Answered) (s s' : Standing) →
+    Takes coming between asked → before ≡ answers → IsUnreplied c ports asked s s'.past → EndsBy c ports (desk coming answers s) (desk between before s') ends.Memory
+unreplied_turn c ports asked coming between answers before s s' taken same h =
+    (left_turn c ports asked coming between between answers before before s s' taken same refl refl, unreplied asked taken h)
+
+-- there is none to give it
+pub ungiven_turn : (c : Config) (ports : List ℕ) (asked : Option Message) (reply : Message) (coming between coming' : List (List ℕ)) (answers before answers' : List Answered) (s s' : Standing) →
+    Takes coming between asked → before ≡ answers → coming' ≡ between → answers' ≡ before → IsReplied c ports asked reply s s' → EndsBy c ports (desk coming answers s) (desk coming' answers' s') ends.Memory
+ungiven_turn c ports asked reply coming between coming' answers before answers' s s' taken same same' kept h =
+    (left_turn c ports asked coming between coming' answers before answers' s s' taken same same' kept, ungiven asked reply s' (rw same' taken) h refl)

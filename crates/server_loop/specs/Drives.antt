@@ -1,5 +1,5 @@
 -- The drive: rounds over the nodes, in which each gets the server's next message for it.
-use Rattle.std.specs.Prelude.{◌≡◌, ◌⊎◌, ℕ, ◌+◌, ◌*◌, ◌-◌, ◌^◌, ◌<◌, ◌==◌, ◌&&◌, ◌||◌, nat_le, nat_lt, if◌then◌else◌, Bool, true, false, List, [], ◌∷◌, length, set, None, Some, slice_index_or, ⊤}
+use Rattle.std.specs.Prelude.{◌≡◌, ◌⊎◌, ℕ, ◌+◌, ◌*◌, ◌-◌, ◌^◌, ◌<◌, ◌==◌, ◌&&◌, ◌||◌, nat_le, nat_lt, if◌then◌else◌, Bool, true, false, List, [], ◌∷◌, length, set, None, Some, slice_index_or, ⊤, Result, Ok, Err}
 use Rattle.io_core.specs.Links.{Exchange}
 use Rattle.tx_model.specs.declared.record.Record.{Record}
 use Rattle.tx_model.specs.Records.{first_id}
@@ -20,7 +20,7 @@ use Rattle.server_loop.specs.declared.awaiting.Answer.{Answer}
 use Rattle.server_loop.specs.declared.awaiting.Answer.TheVariants as answer
 use Rattle.server_loop.specs.declared.exchanges.Reply.{Reply}
 use Rattle.server_loop.specs.declared.exchanges.Reply.TheVariants as replies
-use Rattle.server_loop.specs.Exchanges.{HasExchanged}
+use Rattle.server_loop.specs.Exchanges.{HasExchanged, IsSent, IsTried}
 
 -- ---- replies
 
@@ -61,6 +61,11 @@ pub record Answers (port : ℕ) (m : Message) (answer : Answer) (old new : List 
   pub reply : Reply
   pub exchanged : HasExchanged port m reply old new
   pub is : answer ≡ answer_of reply
+
+-- it gave this, or memory ran out
+abbrev pub AnswersOf : {E : Type 0} → ℕ → Message → List Exchange → List Exchange → Result Answer E → Type 0
+AnswersOf port m old new (Ok answer) = Answers port m answer old new
+AnswersOf port m old new (Err _) = IsTried port m old new
 
 -- this is the next message for a node
 pub record IsWanted (c : Config) (sv : ServerState) (i : ℕ) (sent : Message) : Type 0 where
@@ -124,6 +129,17 @@ abbrev pub IsVisit : Config → List ℕ → ℕ → Bool → Driving → Drivin
 IsVisit c ports i true a b = IsAsked c ports i a b
 IsVisit c ports i false a b = IsPassed c i a b
 
+-- the node's next message was sent to it, and the reply is lost
+pub record IsUnheard (c : Config) (ports : List ℕ) (i : ℕ) (a : Driving) (past : List Exchange) : Type 0 where
+  pub message : ToNode
+  pub wanted : next_message c a.state i ≡ Some message
+  pub is_in : is_in a.outs i ≡ true
+  pub sent : IsSent (port_of ports i) (of.ToNode message) a.past past
+
+-- Memory ran out in one node's part of a round: nothing was sent, or the node's next message was.
+abbrev pub IsCutVisit : Config → List ℕ → ℕ → Driving → List Exchange → Type 0
+IsCutVisit c ports i a past = (past ≡ a.past) ⊎ IsUnheard c ports i a past
+
 -- ---- rounds
 
 abbrev pub is_closed : Phase → Bool
@@ -153,6 +169,16 @@ abbrev pub IsRound : Config → List ℕ → Bool → Driving → Driving → Ty
 IsRound c ports true a d = IsInRound c ports a c.nodes true d × (is_closed d.state.phase ≡ false)
 IsRound c ports false a d = EndsDrive c ports a d
 
+-- a round in which memory ran out, in the part of the node behind those that were visited
+pub record IsCutRound (c : Config) (ports : List ℕ) (a : Driving) (past : List Exchange) : Type 0 where
+  pub visits : ℕ
+  pub sent : Bool
+  pub at : Driving
+  pub round : IsInRound c ports a visits sent at
+  pub more : visits < c.nodes
+  pub works : is_closed at.state.phase ≡ false
+  pub cut : IsCutVisit c ports (visits + 1) at past
+
 -- whole rounds, in each of which something was sent and none of which closed the server
 pub data AreRounds (c : Config) (ports : List ℕ) (a : Driving) : Driving → Type 0 where
   none : AreRounds c ports a a
@@ -163,6 +189,12 @@ pub record IsDrive (c : Config) (ports : List ℕ) (a d : Driving) : Type 0 wher
   pub before : Driving
   pub rounds : AreRounds c ports a before
   pub ends : EndsDrive c ports before d
+
+-- a drive in which memory ran out: whole rounds, and the one in which it did
+pub record IsCutDrive (c : Config) (ports : List ℕ) (a : Driving) (past : List Exchange) : Type 0 where
+  pub before : Driving
+  pub rounds : AreRounds c ports a before
+  pub cut : IsCutRound c ports before past
 
 -- ---- why a drive ends: each exchange puts its node out, or lessens what the nodes lack
 

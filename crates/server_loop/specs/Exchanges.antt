@@ -1,5 +1,5 @@
 -- An exchange with whoever serves at a port: what is sent, and what comes back is read as.
-use Rattle.std.specs.Prelude.{◌≡◌, ◌≢◌, ℕ, ◌≤◌, List, [], ◌∷◌, ◌++◌, length, Result, Ok, ⊤}
+use Rattle.std.specs.Prelude.{◌≡◌, ◌≢◌, ◌⊎◌, ℕ, ◌≤◌, List, [], ◌∷◌, ◌++◌, length, Result, Ok, Err, ⊤}
 use Rattle.io_core.specs.Causes.{Rose}
 use Rattle.io_core.specs.Links as links
 use Rattle.io_core.specs.Links.{Heard, Exchange}
@@ -28,6 +28,19 @@ pub record HasExchanged (port : ℕ) (m : Message) (reply : Reply) (old new : Li
   pub heard : Heard
   pub read : IsReply heard reply
   pub past : new ≡ old ++ record { port = port; sent = message_frame m; heard = heard } ∷ []
+
+-- a message is sent to a port, whatever comes back
+abbrev pub IsSent : ℕ → Message → List Exchange → List Exchange → Type 0
+IsSent port m old new =
+    (heard : Heard) × (new ≡ old ++ record { port = port; sent = message_frame m; heard = heard } ∷ [])
+
+-- Memory ran out: nothing was sent, or the message was, and its reply is lost.
+abbrev pub IsTried : ℕ → Message → List Exchange → List Exchange → Type 0
+IsTried port m old new = (new ≡ old) ⊎ IsSent port m old new
+
+abbrev pub ExchangesOf : {E : Type 0} → ℕ → Message → List Exchange → List Exchange → Result Reply E → Type 0
+ExchangesOf port m old new (Ok reply) = HasExchanged port m reply old new
+ExchangesOf port m old new (Err _) = IsTried port m old new
 
 abbrev pub IsValidReply : Reply → Type 0
 IsValidReply (replies.Message m) = IsValidMessage m

@@ -13,7 +13,7 @@ use Rattle.session_register.specs.declared.register.RegisterFault.TheVariants as
 use Rattle.session_register.specs.Registers.{last_session}
 use Rattle.server_loop.specs.declared.exchanges.Reply.{Reply}
 use Rattle.server_loop.specs.declared.exchanges.Reply.TheVariants as replies
-use Rattle.server_loop.specs.Exchanges.{HasExchanged}
+use Rattle.server_loop.specs.Exchanges.{HasExchanged, IsTried}
 
 -- `Value` is awaited after `Read`
 abbrev pub number_in : FromRegister → Result ℕ RegisterFault
@@ -50,17 +50,23 @@ pub record IsAsked (A : Type 0) (port : ℕ) (m : ToRegister) (make : FromRegist
   pub exchanged : HasExchanged port (of.ToRegister m) reply old new
   pub made : result ≡ made_of make (message_of reply)
 
+-- the register was asked, and this was made of its reply; or memory ran out
+pub data Asks (A : Type 0) (port : ℕ) (m : ToRegister) (make : FromRegister → Result A RegisterFault)
+    (old : List Exchange) : List Exchange → Result A RegisterFault → Type 0 where
+  answered : (new : List Exchange) (result : Result A RegisterFault) → IsAsked A port m make old new result →
+      Asks A port m make old new result
+  no_memory : (new : List Exchange) → IsTried port (of.ToRegister m) old new → Asks A port m make old new (Err faults.Memory)
+
 abbrev pub IsReadAt : ℕ → List Exchange → List Exchange → Result ℕ RegisterFault → Type 0
-IsReadAt port old new result = IsAsked ℕ port to.Read number_in old new result
+IsReadAt port old new result = Asks ℕ port to.Read number_in old new result
 
 abbrev pub IsCasAt : ℕ → ℕ → List Exchange → List Exchange → Result Cas RegisterFault → Type 0
-IsCasAt port number old new result = IsAsked Cas port (to.Cas number) (outcome_in number) old new result
+IsCasAt port number old new result = Asks Cas port (to.Cas number) (outcome_in number) old new result
 
--- The number is read, and then made one more. Of running out of memory nothing is told.
+-- The number is read, and then made one more.
 pub data IsDraw (port : ℕ) (old : List Exchange) : List Exchange → Result Cas RegisterFault → Type 0 where
   unread : (new : List Exchange) (fault : RegisterFault) → IsReadAt port old new (Err fault) →
       IsDraw port old new (Err fault)
   tried : (between new : List Exchange) (number : ℕ) (result : Result Cas RegisterFault) →
       IsReadAt port old between (Ok number) → IsCasAt port number between new result →
       IsDraw port old new result
-  no_memory : (new : List Exchange) → IsDraw port old new (Err faults.Memory)

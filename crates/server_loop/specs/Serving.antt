@@ -14,10 +14,11 @@ use Rattle.wire_codec.specs.declared.message.Message.TheVariants as of
 use Rattle.wire_codec.specs.declared.message.Control.TheVariants.{Bye, Done, No}
 use Rattle.server_loop.specs.declared.driving.Out.{Out}
 use Rattle.server_loop.specs.declared.driving.Out.TheVariants as outs
-use Rattle.server_loop.specs.Drives.{driving, IsDrive, is_closed}
+use Rattle.server_loop.specs.Drives.{driving, IsDrive, IsCutDrive, is_closed}
 use Rattle.server_loop.specs.declared.end.End.{End}
 use Rattle.server_loop.specs.declared.end.End.TheVariants as ends
 use Rattle.server_loop.specs.Turns.{Desk, IsTurn, IsLeft, InARow}
+use Rattle.server_loop.specs.Taking.{Takes}
 
 -- a server's state, and the exchanges of its link
 pub record Standing : Type 0 where
@@ -34,6 +35,10 @@ all_in = replicate 8 outs.In
 -- a drive in which no node is out at its start
 pub record IsFreshDrive (c : Config) (ports : List ℕ) (a b : Standing) (out : List Out) : Type 0 where
   pub drive : IsDrive c ports (driving a.state all_in a.past) (driving b.state out b.past)
+
+-- one in which memory ran out
+abbrev pub IsFreshCut : Config → List ℕ → Standing → List Exchange → Type 0
+IsFreshCut c ports a past = IsCutDrive c ports (driving a.state all_in a.past) past
 
 -- ---- what is answered
 
@@ -69,6 +74,18 @@ IsReplied c ports (Some (of.ToServer m)) reply a b = IsServedSo c ports m reply 
 IsReplied c ports (Some (of.Control Bye)) reply a b = (reply ≡ of.Control Done) × (b ≡ a)
 IsReplied c ports _ reply a b = (reply ≡ of.Control No) × (b ≡ a)
 
+-- Memory ran out before a request had its answer: nothing was sent for it; or it was an append that was assigned, and
+-- memory ran out in its drive.
+abbrev pub IsUnserved : Config → List ℕ → ToServer → Standing → List Exchange → Type 0
+IsUnserved c ports m a past =
+    (past ≡ a.past)
+    ⊎ ((served_answers c a.state m ≡ []) × IsFreshCut c ports (standing (served_after c a.state m) a.past) past)
+
+-- a reply that takes no step of the server takes no memory
+abbrev pub IsUnreplied : Config → List ℕ → Option Message → Standing → List Exchange → Type 0
+IsUnreplied c ports (Some (of.ToServer m)) a past = IsUnserved c ports m a past
+IsUnreplied c ports _ a past = ⊥
+
 -- ---- turns
 
 abbrev pub IsServerTurn : Config → List ℕ → Bool → Desk Standing → Desk Standing → Type 0
@@ -79,13 +96,22 @@ pub record GoesOn (c : Config) (ports : List ℕ) (a b : Desk Standing) : Type 0
   pub turn : IsServerTurn c ports false a b
   pub works : is_closed b.server.state.phase ≡ false
 
+-- Memory ran out in a turn. By then nothing was sent; or a request was taken, and memory ran out before it had a reply; or
+-- it had one, which was not given.
+pub data StopsShort (c : Config) (ports : List ℕ) (a b : Desk Standing) : Type 0 where
+  unsent : b.server.past ≡ a.server.past → StopsShort c ports a b
+  unreplied : (asked : Option Message) → Takes a.coming b.coming asked →
+      IsUnreplied c ports asked a.server b.server.past → StopsShort c ports a b
+  ungiven : (asked : Option Message) (reply : Message) (d : Standing) → Takes a.coming b.coming asked →
+      IsReplied c ports asked reply a.server d → b.server.past ≡ d.past → StopsShort c ports a b
+
 -- what the turn does in which the loop ends
 abbrev pub EndsBy : Config → List ℕ → Desk Standing → Desk Standing → End → Type 0
 EndsBy c ports a b ends.Bye = IsServerTurn c ports true a b
 EndsBy c ports a b ends.Port = (a.coming ≡ []) × (b ≡ a)
 EndsBy c ports a b ends.Peer = b ≡ a
 EndsBy c ports a b (ends.TakenOver p) = IsServerTurn c ports false a b × (b.server.state.phase ≡ Closed p)
-EndsBy c ports a b ends.Memory = IsLeft Standing a b
+EndsBy c ports a b ends.Memory = IsLeft Standing a b × StopsShort c ports a b
 EndsBy c ports a b _ = ⊥
 
 -- the end that an answered turn is, by whether it was `Bye` and by the server's phase after it

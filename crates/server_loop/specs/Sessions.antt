@@ -15,7 +15,7 @@ use Rattle.session_register.specs.declared.register.RegisterFault.TheVariants as
 use Rattle.server_loop.specs.Exchanges.{Grows}
 use Rattle.server_loop.specs.Registers.{IsDraw}
 use Rattle.server_loop.specs.Turns.{Desk, desk}
-use Rattle.server_loop.specs.Serving.{Standing, standing, IsFreshDrive, Serves}
+use Rattle.server_loop.specs.Serving.{Standing, standing, IsFreshDrive, IsFreshCut, Serves}
 use Rattle.server_loop.specs.Ends.{IsBrokenEnd, IsSessionEnd, session_line, listening_line}
 
 -- what doesn't change in a run: the server's config, the ports of the register and of the nodes, and the server's own
@@ -49,12 +49,20 @@ pub record IsRecovered (at : Post) (old : List Exchange) (b : Standing) (session
   pub draw : IsDraw at.register old between (Ok (cas.Won session))
   pub driven : IsFreshDrive at.config at.nodes (standing (drawn session) between) b out
 
--- how a session begins, or by which end it doesn't. Of want of memory nothing is told
+-- the session is drawn, and memory ran out in the drive by which it was to be recovered
+pub record IsCutRecovery (at : Post) (old new : List Exchange) (session : ℕ) : Type 0 where
+  pub between : List Exchange
+  pub draw : IsDraw at.register old between (Ok (cas.Won session))
+  pub cut : IsFreshCut at.config at.nodes (standing (drawn session) between) new
+
+-- how a session begins, or by which end it doesn't: memory may run out before anything is sent, in the draw, or in the
+-- drive
 pub data Begins (at : Post) (old : List Exchange) : Standing → Result ℕ End → Type 0 where
   undrawn : (b : Standing) (answer : Result Cas RegisterFault) (end : End) → IsDraw at.register old b.past answer → session_of answer ≡ Err end → Begins at old b (Err end)
   unrecovered : (b : Standing) (session : ℕ) (out : List Out) (end : End) → IsRecovered at old b session out → recovery_end b.state.phase out ≡ Some end → Begins at old b (Err end)
   recovered : (b : Standing) (session : ℕ) (out : List Out) → IsRecovered at old b session out → recovery_end b.state.phase out ≡ None → Begins at old b (Ok session)
-  no_memory : (b : Standing) → Begins at old b (Err ends.Memory)
+  unstarted : (b : Standing) → b.past ≡ old → Begins at old b (Err ends.Memory)
+  cut : (b : Standing) (session : ℕ) → IsCutRecovery at old b.past session → Begins at old b (Err ends.Memory)
 
 -- the lines of a server that serves
 abbrev pub begun_lines : Post → ℕ → Standing → List ℕ

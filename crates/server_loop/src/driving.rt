@@ -1,7 +1,7 @@
-ghost use Rattle.std.specs.Prelude.{◌≡◌, ◌≤◌, ◌<◌, ◌||◌, ℕ, true, set, slice_index_or, length, Ok, IfOk, OnOk};
+ghost use Rattle.std.specs.Prelude.{◌≡◌, ◌≤◌, ◌<◌, ◌||◌, ℕ, true, set, slice_index_or, length, Ok, IfOk, OnOk, OnErr};
 ghost use Rattle.wire_codec.specs.Spelling.{IsValidMessage};
 ghost use Rattle.server_loop.specs.Failures.{HasAnswerCause, HasCounted};
-ghost use Rattle.server_loop.specs.Drives.{driving, out_after, state_after, work, Answers, IsDrive, IsLess, IsRound, IsValidAnswer, IsVisit, IsWanted};
+ghost use Rattle.server_loop.specs.Drives.{driving, out_after, state_after, work, AnswersOf, IsCutDrive, IsCutRound, IsDrive, IsLess, IsCutVisit, IsRound, IsValidAnswer, IsVisit, IsWanted};
 
 use crate::awaiting::{Answer, answer_of, is_awaited_by};
 use crate::driven::Driven;
@@ -32,8 +32,8 @@ fn ask_node<L: Link>(
 ) -> Result<Answer, AllocError>
     requires valid { IsValidMessage message.now }
     requires room { length room.old ≡ MAX_FRAME }
-    ensures told { IfOk result (λ answer. L.tells →
-        Answers port message.now answer (L.transcript link.old) (L.transcript link.new)) }
+    ensures told { L.tells →
+        AnswersOf port message.now (L.transcript link.old) (L.transcript link.new) result }
     ensures valid { IfOk result IsValidAnswer }
     ensures room { length room.new ≡ length room.old }
     ensures cause { IfOk result (HasAnswerCause (L.faults link.old) (L.faults link.new)) }
@@ -109,6 +109,8 @@ fn visit<S: Driven, L: Link>(
     ensures visit { IfOk result (λ sent. L.tells → IsVisit (S.config server.old) ports.now node sent
         (driving (S.state server.old) outs.old (L.transcript link.old))
         (driving (S.state server.new) outs.new (L.transcript link.new))) }
+    ensures cut { OnErr result (L.tells → IsCutVisit (S.config server.old) ports.now node
+        (driving (S.state server.old) outs.old (L.transcript link.old)) (L.transcript link.new)) }
     ensures config { S.config server.new ≡ S.config server.old }
     ensures room { length room.new ≡ length room.old }
     ensures less { IfOk result (λ sent. IsLess sent
@@ -148,6 +150,8 @@ fn round<S: Driven, L: Link>(
     ensures round { IfOk result (λ on. L.tells → IsRound (S.config server.old) ports.now on
         (driving (S.state server.old) outs.old (L.transcript link.old))
         (driving (S.state server.new) outs.new (L.transcript link.new))) }
+    ensures cut { OnErr result (L.tells → IsCutRound (S.config server.old) ports.now
+        (driving (S.state server.old) outs.old (L.transcript link.old)) (L.transcript link.new)) }
     ensures config { S.config server.new ≡ S.config server.old }
     ensures room { length room.new ≡ length room.old }
     ensures less { result ≡ Ok true → work outs.new (S.lack server.new) < work outs.old (S.lack server.old) }
@@ -168,6 +172,7 @@ fn round<S: Driven, L: Link>(
 }
 
 /// Brings the nodes forward as far as they answer. Each exchange puts its node out or moves it forward, so a drive ends.
+/// Where memory runs out, nothing is sent behind the message whose reply is lost.
 pub fn drive<S: Driven, L: Link>(
     alloc: Global,
     server: &mut S,
@@ -181,6 +186,8 @@ pub fn drive<S: Driven, L: Link>(
     ensures drive { OnOk result (L.tells → IsDrive (S.config server.old) ports.now
         (driving (S.state server.old) outs.old (L.transcript link.old))
         (driving (S.state server.new) outs.new (L.transcript link.new))) }
+    ensures cut { OnErr result (L.tells → IsCutDrive (S.config server.old) ports.now
+        (driving (S.state server.old) outs.old (L.transcript link.old)) (L.transcript link.new)) }
     ensures config { S.config server.new ≡ S.config server.old }
     ensures room { length room.new ≡ length room.old }
 

@@ -1,7 +1,7 @@
 ghost use Rattle.std.specs.Prelude.{◌≡◌, ◌++◌, [], ◌∷◌, IfOk, length};
 ghost use Rattle.io_core.specs.Links as links;
 ghost use Rattle.wire_codec.specs.Spelling.{IsValidMessage};
-ghost use Rattle.server_loop.specs.Exchanges.{HasExchanged, HasReplyCause, IsAnswered, IsReply, IsValidReply};
+ghost use Rattle.server_loop.specs.Exchanges.{ExchangesOf, HasReplyCause, IsAnswered, IsReply, IsValidReply};
 
 use crate::requests::whole_message;
 use io_core::{Back, Fault, Link};
@@ -43,8 +43,8 @@ pub fn exchange<L: Link>(
 ) -> Result<Reply, AllocError>
     requires valid { IsValidMessage message.now }
     requires room { length room.old ≡ MAX_FRAME }
-    ensures told { IfOk result (λ reply. L.tells →
-        HasExchanged port message.now reply (L.transcript link.old) (L.transcript link.new)) }
+    ensures told { L.tells →
+        ExchangesOf port message.now (L.transcript link.old) (L.transcript link.new) result }
     ensures valid { IfOk result IsValidReply }
     ensures room { length room.new ≡ length room.old }
     ensures cause { HasReplyCause (L.faults link.old) (L.faults link.new) result }

@@ -5,7 +5,7 @@ ghost use Rattle.wire_codec.specs.declared.message.FromRegister.{FromRegister as
 ghost use Rattle.session_register.specs.Registers.{IsCas};
 ghost use Rattle.session_register.specs.Telling.{HasRegisterCause, TellsCas, TellsRead};
 ghost use Rattle.server_loop.specs.Exchanges.{IsRoom, IsValidReply};
-ghost use Rattle.server_loop.specs.Registers.{number_in, outcome_in, message_of, IsAsked, IsReadAt, IsCasAt, IsDraw};
+ghost use Rattle.server_loop.specs.Registers.{number_in, outcome_in, message_of, Asks, IsReadAt, IsCasAt, IsDraw};
 
 use crate::exchanges::{Reply, exchange};
 use io_core::Link;
@@ -20,7 +20,6 @@ fn number_in(m: FromRegister) -> Result<u64, RegisterFault>
     ensures value { result ≡ number_in m }
     ensures valid { IfOk result IsCount }
     ensures answered { result ≢ Err RegisterFault.Failed }
-    ensures memory { result ≢ Err RegisterFault.Memory }
 {
     match m {
         FromRegister::Value(number) => Ok(number),
@@ -37,7 +36,6 @@ fn outcome_in(number: u64, m: FromRegister) -> Result<Cas, RegisterFault>
     ensures value { result ≡ outcome_in number m }
     ensures valid { IfOk result IsCas }
     ensures answered { result ≢ Err RegisterFault.Failed }
-    ensures memory { result ≢ Err RegisterFault.Memory }
 {
     match m {
         FromRegister::Value(_) => Err(RegisterFault::Garbled),
@@ -70,7 +68,6 @@ fn message_of(reply: &Reply) -> Result<FromRegister, RegisterFault>
     requires { IsValidReply reply.now }
     ensures value { result ≡ message_of reply.now }
     ensures valid { IfOk result IsValidFromRegister }
-    ensures memory { result ≢ Err RegisterFault.Memory }
 {
     match reply {
         Reply::Message(Message::FromRegister(m)) => Ok(*m),
@@ -96,8 +93,8 @@ fn ask<L: Link>(
 ) -> Result<FromRegister, RegisterFault>
     requires valid { IsValidToRegister message }
     requires room { length room.old ≡ MAX_FRAME }
-    ensures told { (result ≢ Err RegisterFault.Memory) → L.tells →
-        IsAsked FromRegisterValue port message Ok (L.transcript link.old) (L.transcript link.new) result }
+    ensures told { L.tells →
+        Asks FromRegisterValue port message Ok (L.transcript link.old) (L.transcript link.new) result }
     ensures valid { IfOk result IsValidFromRegister }
     ensures room { length room.new ≡ length room.old }
     ensures cause { HasRegisterCause (L.faults link.old) (L.faults link.new) result }
@@ -117,7 +114,7 @@ fn read_number<L: Link>(
     room: &mut [u8],
 ) -> Result<u64, RegisterFault>
     requires room { length room.old ≡ MAX_FRAME }
-    ensures told { (result ≢ Err RegisterFault.Memory) → L.tells →
+    ensures told { L.tells →
         IsReadAt port (L.transcript link.old) (L.transcript link.new) result }
     ensures valid { IfOk result IsCount }
     ensures room { length room.new ≡ length room.old }
@@ -140,7 +137,7 @@ fn try_cas<L: Link>(
 ) -> Result<Cas, RegisterFault>
     requires number { IsCount number }
     requires room { length room.old ≡ MAX_FRAME }
-    ensures told { (result ≢ Err RegisterFault.Memory) → L.tells →
+    ensures told { L.tells →
         IsCasAt port number (L.transcript link.old) (L.transcript link.new) result }
     ensures valid { IfOk result IsCas }
     ensures room { length room.new ≡ length room.old }
@@ -171,7 +168,7 @@ pub fn draw<L: Link>(
     }
 }
 
-/// The register that serves at a port of a link. Each call is one exchange.
+/// The register that serves at a port of a link. Each call is one exchange; at want of memory it may be none.
 pub struct LinkRegister<'a, L: Link> {
     alloc: Global,
     link: &'a mut L,
@@ -206,8 +203,8 @@ impl<L: Link> Register for LinkRegister<'_, L> {
         ensures range { IfOk result IsCount }
         ensures cause { HasRegisterCause (L.faults self.old.link.now) (L.faults self.new.link.now) result }
 
-        // One exchange, and what is awaited of it.
-        ensures asked { (result ≢ Err RegisterFault.Memory) → L.tells → IsReadAt self.old.port
+        // One exchange, and what is awaited of it; at want of memory one at most.
+        ensures asked { L.tells → IsReadAt self.old.port
             (L.transcript self.old.link.now) (L.transcript self.new.link.now) result }
         ensures link { self.new.link.ghost_name ≡ self.old.link.ghost_name }
         ensures port { self.new.port ≡ self.old.port }
@@ -221,8 +218,8 @@ impl<L: Link> Register for LinkRegister<'_, L> {
         ensures range { IfOk result IsCas }
         ensures cause { HasRegisterCause (L.faults self.old.link.now) (L.faults self.new.link.now) result }
 
-        // One exchange, and what is awaited of it.
-        ensures asked { (result ≢ Err RegisterFault.Memory) → L.tells → IsCasAt self.old.port from
+        // One exchange, and what is awaited of it; at want of memory one at most.
+        ensures asked { L.tells → IsCasAt self.old.port from
             (L.transcript self.old.link.now) (L.transcript self.new.link.now) result }
         ensures link { self.new.link.ghost_name ≡ self.old.link.ghost_name }
         ensures port { self.new.port ≡ self.old.port }

@@ -1,10 +1,10 @@
-ghost use Rattle.std.specs.Prelude.{◌≡◌, ◌≤◌, ℕ, IfOk, IfErr, IfSome, OnOk, Ok, Err, None, length, Result};
+ghost use Rattle.std.specs.Prelude.{◌≡◌, ◌≤◌, ℕ, IfOk, IfErr, IfSome, OnOk, OnErr, Ok, Err, None, length, Result};
 ghost use Rattle.io_core.specs.Causes.{Rose};
 ghost use Rattle.proto_model.specs.Servers.{drawn};
 ghost use Rattle.tx_model.specs.Records.{IsPlace};
 ghost use Rattle.session_register.specs.Registers.{IsCas};
 ghost use Rattle.server_loop.specs.Failures.{HasCounted};
-ghost use Rattle.server_loop.specs.Serving.{standing, all_in, IsFreshDrive};
+ghost use Rattle.server_loop.specs.Serving.{standing, all_in, IsFreshDrive, IsFreshCut};
 ghost use Rattle.server_loop.specs.Sessions.{post, session_of, recovery_end, Begins};
 ghost use Rattle.server_loop.specs.Ends.{IsBeginningEnd, HasCountedOuts};
 
@@ -66,6 +66,8 @@ fn recover<H: Host, L: Link>(
     ensures drive { IfOk result (λ out. L.tells → IsFreshDrive (H.config host.old) ports.now
         (standing (drawn session) (L.transcript link.old))
         (standing (H.state host.new) (L.transcript link.new)) out) }
+    ensures cut { OnErr result (L.tells → IsFreshCut (H.config host.old) ports.now
+        (standing (drawn session) (L.transcript link.old)) (L.transcript link.new)) }
     ensures config { H.config host.new ≡ H.config host.old }
     ensures room { length room.new ≡ length room.old }
     ensures counted { IfOk result (HasCounted (L.faults link.old) (L.faults link.new) all_in) }

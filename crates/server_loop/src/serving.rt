@@ -1,11 +1,11 @@
-ghost use Rattle.std.specs.Prelude.{◌≡◌, ◌≤◌, length, IfOk, IfSome, OnOk};
+ghost use Rattle.std.specs.Prelude.{◌≡◌, ◌≤◌, length, IfOk, IfSome, OnOk, OnErr};
 ghost use Rattle.tx_model.specs.Records.{IsPlace};
 ghost use Rattle.proto_model.specs.Servers.{commit_mark};
 ghost use Rattle.proto_model.specs.Validity.{IsValidToServer, IsValidFromServer, IsWord};
 ghost use Rattle.wire_codec.specs.Spelling.{IsValidMessage};
 ghost use Rattle.wire_codec.specs.declared.message.Message.TheVariants as of;
 ghost use Rattle.server_loop.specs.Failures.{HasCounted};
-ghost use Rattle.server_loop.specs.Serving.{standing, all_in, IsFreshDrive, settled_answer, IsSettled, IsServed, IsReplied};
+ghost use Rattle.server_loop.specs.Serving.{standing, all_in, IsFreshDrive, IsFreshCut, settled_answer, IsSettled, IsServed, IsUnserved, IsReplied, IsUnreplied};
 
 use crate::driving::{Out, drive};
 use crate::host::Host;
@@ -28,6 +28,8 @@ pub fn drive_all<H: Host, L: Link>(
     ensures drive { IfOk result (λ out. L.tells → IsFreshDrive (H.config host.old) ports.now
         (standing (H.state host.old) (L.transcript link.old))
         (standing (H.state host.new) (L.transcript link.new)) out) }
+    ensures cut { OnErr result (L.tells → IsFreshCut (H.config host.old) ports.now
+        (standing (H.state host.old) (L.transcript link.old)) (L.transcript link.new)) }
     ensures config { H.config host.new ≡ H.config host.old }
     ensures room { length room.new ≡ length room.old }
     ensures counted { IfOk result (HasCounted (L.faults link.old) (L.faults link.new) all_in) }
@@ -67,6 +69,8 @@ fn settle<H: Host, L: Link>(
     ensures settled { IfOk result (λ answer. L.tells → IsSettled (H.config host.old) ports.now request answer
         (standing (H.state host.old) (L.transcript link.old))
         (standing (H.state host.new) (L.transcript link.new))) }
+    ensures cut { OnErr result (L.tells → IsFreshCut (H.config host.old) ports.now
+        (standing (H.state host.old) (L.transcript link.old)) (L.transcript link.new)) }
     ensures valid { IfOk result IsValidFromServer }
     ensures config { H.config host.new ≡ H.config host.old }
     ensures room { length room.new ≡ length room.old }
@@ -92,6 +96,8 @@ pub fn serve_request<H: Host, L: Link>(
     ensures served { IfOk result (λ answer. L.tells → IsServed (H.config host.old) ports.now m answer
         (standing (H.state host.old) (L.transcript link.old))
         (standing (H.state host.new) (L.transcript link.new))) }
+    ensures unserved { OnErr result (L.tells → IsUnserved (H.config host.old) ports.now m
+        (standing (H.state host.old) (L.transcript link.old)) (L.transcript link.new)) }
     ensures valid { IfOk result IsValidFromServer }
     ensures config { H.config host.new ≡ H.config host.old }
     ensures room { length room.new ≡ length room.old }
@@ -119,6 +125,8 @@ pub fn reply_to<H: Host, L: Link>(
     ensures replied { IfOk result (λ reply. L.tells → IsReplied (H.config host.old) ports.now asked reply
         (standing (H.state host.old) (L.transcript link.old))
         (standing (H.state host.new) (L.transcript link.new))) }
+    ensures unreplied { OnErr result (L.tells → IsUnreplied (H.config host.old) ports.now asked
+        (standing (H.state host.old) (L.transcript link.old)) (L.transcript link.new)) }
     ensures valid { IfOk result IsValidMessage }
     ensures config { H.config host.new ≡ H.config host.old }
     ensures room { length room.new ≡ length room.old }

@@ -1,4 +1,4 @@
-ghost use Rattle.std.specs.Prelude.{◌≡◌, ◌≢◌, ◌≤◌, ◌<◌, ℕ, Bool, false, IfSome, MatchOption, Some, length, ⊤};
+ghost use Rattle.std.specs.Prelude.{◌≡◌, ◌≤◌, ◌<◌, ℕ, Bool, false, IfSome, MatchOption, Some, length, ⊤};
 ghost use Rattle.io_core.specs.Causes.{Rose};
 ghost use Rattle.proto_model.specs.Servers.{ServerState};
 ghost use Rattle.server_loop.specs.Exchanges.{Grows};
@@ -61,7 +61,7 @@ fn turn<H: Host, L: Link, P: Port>(
     ensures ends { IfSome result IsServingEnd }
     ensures peer { result ≡ Some End.Peer → Rose (P.faults port.old) (P.faults port.new) }
     ensures peer_told { P.faults port.old < P.faults port.new → result ≡ Some End.Peer }
-    ensures grows { L.tells → (result ≢ Some End.Memory) → Grows (L.transcript link.old) (L.transcript link.new) }
+    ensures grows { L.tells → Grows (L.transcript link.old) (L.transcript link.new) }
 {
     let asked = match next_request(alloc, port, room) {
         Ok(asked) => asked,
@@ -96,7 +96,7 @@ pub fn take_turns<H: Host, L: Link, P: Port>(
     ensures ends { IsServingEnd result }
     ensures peer { result ≡ End.Peer → Rose (P.faults port.old) (P.faults port.new) }
     ensures peer_told { P.faults port.old < P.faults port.new → result ≡ End.Peer }
-    ensures grows { L.tells → (result ≢ End.Memory) → Grows (L.transcript link.old) (L.transcript link.new) }
+    ensures grows { L.tells → Grows (L.transcript link.old) (L.transcript link.new) }
 {
     for count in 0..MAX_TURNS {
         if let Some(end) = turn(alloc, host, link, ports, port, room) {

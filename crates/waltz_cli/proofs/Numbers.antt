@@ -1,11 +1,10 @@
 -- How the commands on the schedule of a number end.
-use Rattle.std.proofs.Common.{◌≡◌, ◌⊎◌, inl, inr, ℕ, ◌<◌, List, [], Option, Result, Ok, Err, refl, arith}
+use Rattle.std.proofs.Common.{◌≡◌, ◌⊎◌, inl, inr, ℕ, List, Option, Result, Ok, Err, refl, arith}
 use Rattle.std.specs.Prelude.{OnOk, OnErr, IfErr}
 use Rattle.schedule_replay.specs.declared.fault.ReplayFault.{ReplayFault}
 use Rattle.schedule_replay.specs.declared.fault.ReplayFault.TheVariants.{Read, Write, Line, Range, TooManyEvents, Memory}
 use Rattle.schedule_replay.specs.Faults.{IsBrokenFault}
 use Rattle.schedule_replay.specs.Drills.{PrintsDrill}
-use Rattle.waltz_cli.specs.declared.end.End.{End}
 use Rattle.waltz_cli.specs.Ends.{status_of, end_of, IsBroken, IsWrittenStatus}
 use Rattle.waltz_cli.specs.Numbered.{PrintsDrilled}
 

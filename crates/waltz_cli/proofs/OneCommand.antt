@@ -1,5 +1,5 @@
 -- Words are of one command alone.
-use Rattle.std.proofs.Common.{◌≡◌, ℕ, ◌<◌, ◌≤◌, ◌+◌, ◌*◌, ◌^◌, ◌-◌, List, [], ◌∷◌, length, get_or, map, codes, decimal, ap, sym, ◌∙◌, refl, arith, vec_len}
+use Rattle.std.proofs.Common.{◌≡◌, ℕ, ◌<◌, ◌≤◌, ◌+◌, ◌*◌, ◌^◌, ◌-◌, List, [], ◌∷◌, length, get_or, map, decimal, ap, sym, ◌∙◌, refl, arith, vec_len}
 use Rattle.std.proofs.lemmas.Fmt.{decimal_injective}
 use Rattle.server_loop.specs.Sessions.{post}
 use Rattle.server_host.specs.Posts.{post_of}

@@ -11,7 +11,7 @@ use Rattle.schedule_replay.specs.declared.fault.ReplayFault.TheVariants.{Read, W
 use Rattle.schedule_replay.specs.Faults.{IsBroken as IsBrokenEnd, IsReported}
 use Rattle.schedule_replay.specs.Replays.{PrintsRun, Prints as PrintsText, ComesExactly as EndsExactly, IsBrokenBy as IsBrokenEndBy}
 use Rattle.waltz_cli.specs.declared.end.End.{End}
-use Rattle.waltz_cli.specs.declared.end.End.TheVariants.{Done, Usage, Stopped}
+use Rattle.waltz_cli.specs.declared.end.End.TheVariants.{Done, Stopped}
 use Rattle.waltz_cli.specs.Ends.{end_of, status_of, last_line, IsBroken, IsBrokenBy, Finishes}
 use Rattle.waltz_cli.specs.Replays.{Prints, PrintsReplay, ComesExactly}
 

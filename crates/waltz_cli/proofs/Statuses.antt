@@ -15,7 +15,7 @@ use Rattle.server_loop.specs.declared.end.End.{End as ServerEnd}
 use Rattle.server_loop.specs.declared.end.End.TheVariants as server_ends
 use Rattle.server_loop.specs.Ends as server
 use Rattle.server_loop.specs.Serving.{standing}
-use Rattle.server_loop.specs.Sessions.{Post, unbegun, no_memory}
+use Rattle.server_loop.specs.Sessions.{Post, unbegun, unstarted}
 use Rattle.client_core.specs.Clients.{fresh_client}
 use Rattle.client_loop.specs.declared.end.End.{End as ScriptEnd}
 use Rattle.client_loop.specs.declared.end.End.TheVariants as script_ends
@@ -123,8 +123,8 @@ no_server tells heard at past counted coming answers held = (
   [],
   inr (inr refl, (0, omega arith, Appends-nothing held)),
   tt,
-  (λ t. unbegun (standing (drawn 0) past) server_ends.Memory (no_memory (standing (drawn 0) past)) refl),
-  (λ t u. (drawn 0, unbegun (standing (drawn 0) past) server_ends.Memory (no_memory (standing (drawn 0) past)))),
+  (λ t. unbegun (standing (drawn 0) past) server_ends.Memory (unstarted (standing (drawn 0) past) refl) refl),
+  (λ t u. (drawn 0, unbegun (standing (drawn 0) past) server_ends.Memory (unstarted (standing (drawn 0) past) refl))),
 )
 
 unread : (left before : Option (List ℕ)) → ReadsWhere script_ends.Memory left before left []

@@ -2,10 +2,10 @@ use Rattle.std.proofs.Common.{◌++◌, refl}
 use Rattle.server_loop.specs.declared.end.End.TheVariants.{Memory}
 use Rattle.server_loop.specs.Ends.{session_line, listening_line}
 use Rattle.server_loop.specs.Serving.{standing}
-use Rattle.server_loop.specs.Sessions.{post, no_memory, unbegun}
+use Rattle.server_loop.specs.Sessions.{post, unstarted, unbegun}
 use Rattle.server_loop.proofs.Causes.{rose_after}
 use Rattle.server_loop.proofs.Counting.{serving_counted, unannounced_counted}
-use Rattle.server_loop.proofs.Growing.{left_open, unannounced_opens, served_opens}
+use Rattle.server_loop.proofs.Growing.{unannounced_opens, served_opens}
 use Rattle.server_loop.proofs.Printing.{all_printed}
 use Rattle.server_loop.proofs.Running.{unbegun_run, unannounced_run, served_run}
 use Rattle.server_loop.proofs.server.run.Goals as goal
@@ -14,7 +14,7 @@ pub returns-in_default-clause-runs : goal.returns-in_default-clause-runs
 returns-in_default-clause-runs g c =
     let r = unbegun_run (post (g.H.Driven.config c.args.host.now) c.args.register c.args.nodes.now c.args.number) (g.L.Link.transcript c.args.link.now) (g.P.Port.coming c.args.port.now) (g.P.Port.answers c.args.port.now)
     (standing (g.H.Driven.state c.args.host.now) (g.L.Link.transcript c.args.link.now)) (g.W.Sink.contents c.args.sink.now) Memory in
-    (r.0, r.1, λ t u. r.2 (no_memory _))
+    (r.0, r.1, λ t u. r.2 (unstarted _ refl))
 
 pub returns-in-Err-clause-runs : goal.returns-in-Err-clause-runs
 returns-in-Err-clause-runs g c =
@@ -66,7 +66,7 @@ pub returns-clause-counted : goal.returns-clause-counted
 returns-clause-counted g c = unannounced_counted _ _ _ _ _ _ c.in-Err-announce.end c.in-Err-announce.ensures.unannounced
 
 pub returns-in_default-clause-opens : goal.returns-in_default-clause-opens
-returns-in_default-clause-opens g c t = left_open _ _ _ (standing (g.H.Driven.state c.args.host.now) (g.L.Link.transcript c.args.link.now)) refl
+returns-in_default-clause-opens g c t = unbegun (standing (g.H.Driven.state c.args.host.now) (g.L.Link.transcript c.args.link.now)) Memory (unstarted _ refl) refl
 
 pub returns-in-Err-clause-opens : goal.returns-in-Err-clause-opens
 returns-in-Err-clause-opens g c t = unbegun _ c.in-Err.end (c.in-Err.ensures.begins t c.args.number) refl
@@ -77,5 +77,5 @@ returns-clause-opens g c t =
 
 pub returns-in-Ok-announce-clause-opens : goal.returns-in-Ok-announce-clause-opens
 returns-in-Ok-announce-clause-opens g c t =
-    served_opens _ _ _ _ (standing (g.H.Driven.state c.take_turns.new.host) (g.L.Link.transcript c.take_turns.new.link)) c.in-Ok-begin_session.session c.take_turns.result refl
+    served_opens _ _ _ _ c.in-Ok-begin_session.session c.take_turns.result
     (c.in-Ok-begin_session.ensures.begins t c.args.number) (c.take_turns.ensures.grows t) c.take_turns.ensures.ends

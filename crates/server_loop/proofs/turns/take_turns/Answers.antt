@@ -13,7 +13,7 @@ loop-count-preserved g c = record {
   turns = λ t u. one_more _ _ _ (c.loop-count.invariant.turns t u) (rw c.loop-count.invariant.config at (c.in_default.ensures.turn t u));
   config = c.turn.ensures.config ∙ c.loop-count.invariant.config;
   room = c.turn.ensures.room ∙ c.loop-count.invariant.room;
-  grows = λ t. grows_both _ _ _ (c.loop-count.invariant.grows t) (c.in_default.ensures.grows t (λ e. cc));
+  grows = λ t. grows_both _ _ _ (c.loop-count.invariant.grows t) (c.in_default.ensures.grows t);
   same = unrisen _ _ c.turn.result c.turn.ensures.later c.turn.ensures.peer_told (search rules) ∙ c.loop-count.invariant.same;
 }
 
@@ -34,8 +34,7 @@ returns-clause-serves g c t u = record {
 }
 
 pub returns-in-Some-clause-grows : goal.returns-in-Some-clause-grows
-returns-in-Some-clause-grows g c t not =
-    grows_both _ _ _ (c.loop-count.invariant.grows t) (c.in-Some.ensures.grows t (λ e. not (cc)))
+returns-in-Some-clause-grows g c t = grows_both _ _ _ (c.loop-count.invariant.grows t) (c.in-Some.ensures.grows t)
 
 pub returns-clause-grows : goal.returns-clause-grows
-returns-clause-grows g c t not = c.loop-count.invariant.grows t
+returns-clause-grows g c t = c.loop-count.invariant.grows t
