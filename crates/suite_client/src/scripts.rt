@@ -65,6 +65,16 @@ const HEADS_2: &str = "00000013 0404 0000000000000002 0000000000000001 00";
 
 const NOT_YET: &str = "0000000b 0407 08 0000000000000000";
 
+// Of request 1, locked: the lock `a`, of a record at 1.
+const LOCKED: &str = "00000015 0403 0000000000000001 04 01 61 0000000000000001";
+
+// Not running, idle.
+const IDLE: &str = "00000004 0407 01 00";
+
+const BAD_ID: &str = "00000003 0407 07";
+
+const NOT_YET_1: &str = "0000000b 0407 08 0000000000000001";
+
 const FLUSH: &str = "00000002 0304";
 
 const FLUSHED: &str = "0000000a 0406 0000000000000001";
@@ -104,9 +114,13 @@ fn answers_are_told(rt: HostRuntime) -> Result<(), Fail> {
     let append = "append a - set a 5\n";
     let cases = [
         (append, PENDING, 0, "pending 1\n", APPEND),
+        (append, LOCKED, 0, "refused locked a 1\n", APPEND),
         (append, OTHER, 19, "! answer\n", APPEND),
         ("sync\n", NOT_YET, 0, "refused notyet 0\n", FEED_1),
+        ("sync\n", BAD_ID, 0, "refused badid\n", FEED_1),
+        ("sync\n", NOT_YET_1, 0, "refused notyet 1\n", FEED_1),
         ("sync\n", HEADS_2, 19, "! answer\n", FEED_1),
+        ("flush\n", IDLE, 0, "refused notrunning idle\n", FLUSH),
         ("flush\n", COMMITTED, 19, "! answer\n", FLUSH),
     ];
     for (script, reply, status, printed, sent) in cases {

@@ -49,26 +49,32 @@ fn stopped(
     Ok((disk, answer, segment.count()))
 }
 
-// The id of the record with this id, and the length of its payload, or zeros.
-fn got(disk: &mut MemDisk, segment: &Segment, id: u64) -> Result<(u64, usize), Fail>
+// The id of a record, and the length of its payload.
+type Got = Option<(u64, usize)>;
+
+// The record with this id.
+fn got(disk: &mut MemDisk, segment: &Segment, id: u64) -> Result<Got, Fail>
     requires { IsIndexOf segment.now ((mem_history disk.old).now segment.now.file).reads }
+    ensures { mem_history disk.new ≡ mem_history disk.old }
 {
     let found = segment.get(disk, id)?;
-    Ok(found.map_or((0, 0), |r| (r.id, r.tx.payload().len())))
+    Ok(found.map(|r| (r.id, r.tx.payload().len())))
 }
 
 // What such an append answered, how many records the segment had then, how many are loaded after a crash, the last one
-// of them, and how long the file is then.
+// of them and the one behind it, and how long the file is then.
 fn left_by(
     alloc: Global,
     old: u8,
     new: u8,
     bytes: u64,
-) -> Result<(Result<(), SegmentFault>, u64, u64, (u64, usize), usize), Fail> {
+) -> Result<(Result<(), SegmentFault>, u64, u64, [Got; 2], usize), Fail> {
     let (mut disk, answer, count) = stopped(alloc, old, new, bytes)?;
     let segment = Segment::load(alloc, &mut disk, 2, 1, old.into())?;
-    let last = got(&mut disk, &segment, segment.count())?;
-    Ok((answer, count, segment.count(), last, disk.bytes(2).len()))
+    let last = segment.count();
+    let found = got(&mut disk, &segment, last)?;
+    let behind = got(&mut disk, &segment, last.saturating_add(1))?;
+    Ok((answer, count, last, [found, behind], disk.bytes(2).len()))
 }
 
 // After how many bytes it isn't as it should be: each frame has 68 bytes, and the sync comes after the last.
@@ -82,8 +88,9 @@ fn wrong_after(alloc: Global, old: u8, new: u8) -> Result<Option<u64>, Fail> {
         } else {
             (Err(SegmentFault::Disk), old.into())
         };
-        let last = if whole == 0 { (0, 0) } else { (whole, 7) };
-        if left_by(alloc, old, new, bytes)? != (answer, count, whole, last, 68 * whole as usize) {
+        let last = if whole == 0 { None } else { Some((whole, 7)) };
+        let found = [last, None];
+        if left_by(alloc, old, new, bytes)? != (answer, count, whole, found, 68 * whole as usize) {
             return Ok(Some(bytes));
         }
     }
@@ -261,7 +268,7 @@ fn longest_disk(alloc: Global) -> Result<MemDisk, Fail> {
 }
 
 // How many records of such a disk a segment has that is loaded and closed, and the second of them.
-fn longest(alloc: Global, kept: u64) -> Result<(u64, (u64, usize)), Fail> {
+fn longest(alloc: Global, kept: u64) -> Result<(u64, Got), Fail> {
     let mut disk = longest_disk(alloc)?;
     let mut segment = Segment::load(alloc, &mut disk, 2, 1, 2)?;
     segment.close(kept);
@@ -275,8 +282,8 @@ fn zeros(alloc: Global, len: usize) -> Result<Vec<u8>, Fail> {
 
 #[test]
 fn frames_longer_than_a_piece(rt: HostRuntime) -> Result<(), Fail> {
-    assert!(rt; longest(rt.alloc(), 2)? == (2, (2, 65536)));
-    assert!(rt; longest(rt.alloc(), 1)? == (1, (0, 0)));
+    assert!(rt; longest(rt.alloc(), 2)? == (2, Some((2, 65536))));
+    assert!(rt; longest(rt.alloc(), 1)? == (1, None));
     Ok(())
 }
 

@@ -1,4 +1,4 @@
-use crate::asks::{Turn, message, sum_of};
+use crate::asks::{Ask, Turn, message, sum_of};
 use crate::stops::{Left, left_of};
 use disk_model::MemDisk;
 use partition_store::Store;
@@ -92,4 +92,25 @@ pub fn store_left(alloc: Global, turns: &[Turn], last: Turn, keep: u64) -> Resul
         log,
         s.low + store.staged() + 1,
     ))
+}
+
+// The id of the record that a store with two committed records gives for an id.
+fn got(alloc: Global, id: u64) -> Result<Option<u64>, Fail> {
+    let turns = [
+        (1, Ask::Open),
+        (1, Ask::Adopt(0)),
+        (1, Ask::Append(1, 2)),
+        (1, Ask::Low(2)),
+    ];
+    let mut store = store_after(alloc, &turns)?;
+    let found = store.get(id)?;
+    Ok(found.map(|r| r.id))
+}
+
+#[test]
+fn a_committed_record_is_found_by_its_id(rt: HostRuntime) -> Result<(), Fail> {
+    for (id, found) in [(0, None), (1, Some(1)), (2, Some(2)), (3, None)] {
+        assert!(rt; got(rt.alloc(), id)? == found, "{id}");
+    }
+    Ok(())
 }

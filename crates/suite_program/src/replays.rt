@@ -118,6 +118,8 @@ fn a_fault_ends_with_its_status_and_what_was_read_whole(rt: HostRuntime) -> Resu
 
 #[test]
 fn other_words_are_usage(rt: HostRuntime) -> Result<(), Fail> {
+    // No words, one that is empty, and others.
+    assert!(rt; are_refused(rt.alloc(), &[])?);
     for line in [
         "",
         "replay x",
@@ -133,6 +135,7 @@ fn other_words_are_usage(rt: HostRuntime) -> Result<(), Fail> {
         "server 1 2 0 64 3",
         "server 1 2 2 4097 3",
         "server 1 2 2 64",
+        "server 7100 7000 2 64 7001 7001",
         "server 1 2 2 64 3 4 3",
         "server 1 2 2 64 3 4 5 6 7 8 9 10",
     ] {

@@ -1,6 +1,8 @@
-//! Tests of the lock table, recovery, the window, the partition server, the application and the client, over what their crates make public.
+//! Tests of the lock table, acknowledgements, recovery, the window, the partition server, the application and the client, over what their crates make public.
 #![tactic(auto)]
 
+#[cfg(test)]
+mod acknowledgements;
 #[cfg(test)]
 mod application;
 #[cfg(test)]

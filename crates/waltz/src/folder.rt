@@ -33,7 +33,7 @@ struct Folder {
     // The folder itself, once it is locked: no other process reads or writes these files then.
     locked: Option<File>,
     // The one used last comes first.
-    open: [Option<Opened>; OPEN_FILES],
+    files: [Option<Opened>; OPEN_FILES],
     // Whether the folder's entries are known to be on the device. At first they aren't: an earlier process may have
     // stopped between making a file and syncing the folder.
     is_settled: bool,
@@ -71,14 +71,14 @@ impl Folder {
         ensures { IfOk result (λ found. IfSome found (λ at. at < 8)) }
     {
         for at in 0..OPEN_FILES {
-            if matches!(&self.open[at], Some(opened) if opened.number == number) {
+            if matches!(&self.files[at], Some(opened) if opened.number == number) {
                 return Ok(Some(at));
             }
         }
         self.lock(rt)?;
         match open(rt, number, is_made)? {
             Some(file) => {
-                self.open[OPEN_FILES - 1] = Some(Opened { number, file });
+                self.files[OPEN_FILES - 1] = Some(Opened { number, file });
                 self.is_settled = self.is_settled && !is_made;
                 Ok(Some(OPEN_FILES - 1))
             }
@@ -91,13 +91,13 @@ impl Folder {
         let Some(at) = self.place(rt, number, is_made)? else {
             return Ok(None);
         };
-        self.open[..=at].rotate_right(1);
+        self.files[..=at].rotate_right(1);
         Ok(self.last_used())
     }
 
     // The file that was used last.
     fn last_used(&self) -> Option<&File> {
-        match &self.open[0] {
+        match &self.files[0] {
             Some(opened) => Some(&opened.file),
             None => None,
         }
@@ -190,7 +190,7 @@ impl<'a> FolderDisk<'a> {
             rt,
             folder: Folder {
                 locked: None,
-                open: [None, None, None, None, None, None, None, None],
+                files: [None, None, None, None, None, None, None, None],
                 is_settled: false,
             },
             faults: 0,
