@@ -169,6 +169,7 @@ pub fn draw<L: Link>(
 }
 
 /// The register that serves at a port of a link. Each call is one exchange; at want of memory it may be none.
+#[derive(Drop)]
 pub struct LinkRegister<'a, L: Link> {
     alloc: Global,
     link: &'a mut L,

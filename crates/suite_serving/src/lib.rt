@@ -1,5 +1,7 @@
-//! Tests of the server's command, over links, ports and sinks in memory.
+//! Tests of the server's command and of the register that it asks, over links, ports and sinks in memory.
 #![tactic(auto)]
 
+#[cfg(test)]
+mod register;
 #[cfg(test)]
 mod server;

@@ -4,15 +4,15 @@ use std::alloc::Global;
 use std::test::Fail;
 
 // What is sent and answered, by the table of formats: to the register and from it,
-const READ: &str = "00000002 05 01";
+pub const READ: &str = "00000002 05 01";
 
-const CAS_0: &str = "0000000a 05 02 0000000000000000";
+pub const CAS_0: &str = "0000000a 05 02 0000000000000000";
 
-const VALUE_0: &str = "0000000a 06 01 0000000000000000";
+pub const VALUE_0: &str = "0000000a 06 01 0000000000000000";
 
-const WON_1: &str = "0000000a 06 02 0000000000000001";
+pub const WON_1: &str = "0000000a 06 02 0000000000000001";
 
-const LOST_1: &str = "0000000a 06 03 0000000000000001";
+pub const LOST_1: &str = "0000000a 06 03 0000000000000001";
 
 // to the node and from it,
 const OPEN_1: &str = "0000000a 01 01 0000000000000001";
@@ -66,7 +66,7 @@ fn all_bytes(alloc: Global, texts: &[&str]) -> Result<Vec<Vec<u8>>, Fail> {
 }
 
 // Whether these are the bytes of the texts, in their order.
-fn are(alloc: Global, found: &[Vec<u8>], texts: &[&str]) -> Result<bool, Fail> {
+pub fn are(alloc: Global, found: &[Vec<u8>], texts: &[&str]) -> Result<bool, Fail> {
     let want = all_bytes(alloc, texts)?;
     Ok(found == want.as_slice())
 }
@@ -91,7 +91,7 @@ fn serve(
 }
 
 // A link with these replies, of which this call fails.
-fn link_of(alloc: Global, replies: &[&str], call: u64) -> Result<MemLink, Fail> {
+pub fn link_of(alloc: Global, replies: &[&str], call: u64) -> Result<MemLink, Fail> {
     let replies = all_bytes(alloc, replies)?;
     Ok(MemLink::new(alloc, replies, vec![in alloc; call]?))
 }
