@@ -65,22 +65,23 @@ module _ (c : Contents) (entries : List Meta) (h : Held) (l : Loaded) (of : IsLo
       not (fits.promised ∙ sym of.promised, (omega (arith, fits.later, of.adopted), (omega (arith, fits.first_is, of.low), omega (arith, fits.above, of.file)))))
 
   abbrev MayRoll : ℕ → ℕ → Type 0
-  MayRoll file first = (0 < l.status.adopted) × ((l.status.low < first) × ((first - 1 ≤ l.status.length) × (l.status.file < file)))
+  MayRoll file first = (0 < l.status.adopted) × ((l.status.low < first) × ((l.first ≤ first) × ((first - 1 ≤ l.status.length) × (l.status.file < file))))
 
   pub legal-roll : (file first : ℕ) → MayRoll file first → is_legal h (Roll file first) ≡ true
   legal-roll file first may =
       and_from (nat_lt 0 h.adopted) _ (lt-ltb 0 h.adopted (omega (arith, may.0, of.adopted)))
       (and_from (nat_lt h.low first) _ (lt-ltb h.low first (omega (arith, may.1.0, of.low)))
-      (and_from (nat_le first (length h.log + 1)) (nat_lt h.file file) (le-leb first (length h.log + 1) (omega (arith, may.1.1.0, of.length))) (lt-ltb h.file file (omega (arith, may.1.1.1, of.file)))))
+      (and_from (nat_le h.first first) _ (le-leb h.first first (omega (arith, may.1.1.0, of.first)))
+      (and_from (nat_le first (length h.log + 1)) (nat_lt h.file file) (le-leb first (length h.log + 1) (omega (arith, may.1.1.1.0, of.length))) (lt-ltb h.file file (omega (arith, may.1.1.1.1, of.file))))))
 
   roll_adopted : (file first : ℕ) → is_legal h (Roll file first) ≡ true → 0 < h.adopted
-  roll_adopted file first is = ltb-true 0 h.adopted (and_parts (nat_lt 0 h.adopted) (nat_lt h.low first && (nat_le first (length h.log + 1) && nat_lt h.file file)) is).0
+  roll_adopted file first is = ltb-true 0 h.adopted (and_parts (nat_lt 0 h.adopted) (nat_lt h.low first && (nat_le h.first first && (nat_le first (length h.log + 1) && nat_lt h.file file))) is).0
 
   pub illegal-roll : (file first : ℕ) → first < 2 ^ 64 → (MayRoll file first → ⊥) → is_legal h (Roll file first) ≡ false
   illegal-roll file first small not = false_from_ne_true (is_legal h (Roll file first)) (λ is.
       let fits = roll_fits h file first is in
       let adopted = roll_adopted file first is in
-      not (omega (arith, adopted, of.adopted), (omega (arith, fits.later, of.low), (omega (arith, fits.within, small, of.length), omega (arith, fits.above, of.file)))))
+      not (omega (arith, adopted, of.adopted), (omega (arith, fits.later, of.low), (omega (arith, fits.begun, of.first), (omega (arith, fits.within, small, of.length), omega (arith, fits.above, of.file))))))
 
   -- an entry that names no file leaves the log as it is
   module _ (e : Meta) (none : named_by e ≡ None) (g : Held) (log : g.log ≡ h.log) (file : g.file ≡ h.file) where
@@ -112,6 +113,7 @@ module _ (c : Contents) (entries : List Meta) (h : Held) (l : Loaded) (of : IsLo
         low = of.low;
         length = of.length;
         file = of.file;
+        first = of.first;
         tail = tail_passed (Promise s) refl (record h { promised = s }) refl refl l.closed.items l.last l.wrong of.tail;
       }))
 
@@ -125,6 +127,7 @@ module _ (c : Contents) (entries : List Meta) (h : Held) (l : Loaded) (of : IsLo
         low = refl;
         length = of.length;
         file = of.file;
+        first = of.first;
         tail = tail_passed (Low k) refl (record h { low = k }) refl refl l.closed.items l.last l.wrong of.tail;
       }))
 

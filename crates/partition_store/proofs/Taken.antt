@@ -157,7 +157,7 @@ module _ (c : Contents) (entries : List Meta) (h : Held) (l : Loaded) (e : Meta)
 
     -- what is held with it
     abbrev g : Held
-    g = record h { adopted = (held_after (table_of c) h e).adopted; log = take (n.first - 1) h.log ++ records_in (c n.file); file = n.file }
+    g = record h { adopted = (held_after (table_of c) h e).adopted; log = take (n.first - 1) h.log ++ records_in (c n.file); file = n.file; first = n.first }
 
     module _ (segment : Index) (frames : ℕ) (closed : List Index) (below : AreClosed c n.file closed) (records : records_by c closed ≡ take (n.first - 1) (records_by c (l.closed.items ++ option_to_list l.last))) where
       -- its tail is in order, or not
@@ -189,9 +189,9 @@ module _ (c : Contents) (entries : List Meta) (h : Held) (l : Loaded) (e : Meta)
       -- it is taken in
       pub taken-file : (now : Loaded) → IsFound c n segment frames now.wrong
           → now.status.promised ≡ l.status.promised → now.status.adopted ≡ (held_after (table_of c) h e).adopted → now.status.low ≡ l.status.low
-          → now.status.length ≡ min ((n.first - 1) + frames) (2 ^ 64 - 1) → now.status.file ≡ n.file → now.closed.items ≡ closed → now.last ≡ Some segment
+          → now.status.length ≡ min ((n.first - 1) + frames) (2 ^ 64 - 1) → now.status.file ≡ n.file → now.first ≡ n.first → now.closed.items ≡ closed → now.last ≡ Some segment
           → IsLoadedOf c (entries ++ e ∷ []) (held_after (table_of c) h e) now
-      taken-file now found promised adopted low length_is file closed_is last =
+      taken-file now found promised adopted low length_is file first closed_is last =
           subst (λ (k : Held). IsLoadedOf c (entries ++ e ∷ []) k now) (sym (named-after (table_of c) h e n names_it legal)) (record {
             folds = subst (FoldsSoFar (table_of c) (entries ++ e ∷ []) none_held) (named-after (table_of c) h e n names_it legal) (so_far-more (table_of c) entries e none_held h of.folds (taken_so_far now.wrong found));
             promised = promised ∙ of.promised;
@@ -199,6 +199,7 @@ module _ (c : Contents) (entries : List Meta) (h : Held) (l : Loaded) (e : Meta)
             low = low ∙ of.low;
             length = length_is ∙ ap (λ (k : ℕ). min k (2 ^ 64 - 1)) (sym (long now.wrong found));
             file = file;
+            first = first;
             tail =
                 subst (λ (is : List Index). IsTailOf c (entries ++ e ∷ []) g is now.last now.wrong) (sym closed_is)
                 (subst (λ (o : Option Index). IsTailOf c (entries ++ e ∷ []) g closed o now.wrong) (sym last) (tail_now now.wrong found));
@@ -227,14 +228,15 @@ unfolding records_by
 none_by c = refl
 
 -- before the first one
-pub none-loaded : (c : Contents) (l : Loaded) → l.status.promised ≡ 0 → l.status.adopted ≡ 0 → l.status.low ≡ 0 → l.status.length ≡ 0 → l.status.file ≡ 1 → l.closed.items ≡ [] → l.last ≡ None → l.wrong ≡ None → IsLoadedOf c [] none_held l
-none-loaded c l promised adopted low long file closed last wrong = record {
+pub none-loaded : (c : Contents) (l : Loaded) → l.status.promised ≡ 0 → l.status.adopted ≡ 0 → l.status.low ≡ 0 → l.status.length ≡ 0 → l.status.file ≡ 1 → l.first ≡ 1 → l.closed.items ≡ [] → l.last ≡ None → l.wrong ≡ None → IsLoadedOf c [] none_held l
+none-loaded c l promised adopted low long file first closed last wrong = record {
   folds = so_far-none (table_of c) none_held;
   promised = promised;
   adopted = adopted;
   low = low;
   length = long;
   file = file;
+  first = first;
   tail =
       subst (IsTailOf c [] none_held l.closed.items l.last) (sym wrong)
       (subst (λ (o : Option Index). IsWholeLog c none_held l.closed.items o) (sym last)

@@ -58,6 +58,7 @@ pub record IsLoadedOf (c : Contents) (entries : List Meta) (h : Held) (l : Loade
   -- where the ids are not in order, a log may be longer than ids are
   pub length : l.status.length ≡ min (length h.log) (2 ^ 64 - 1)
   pub file : l.status.file ≡ h.file
+  pub first : l.first ≡ h.first
   pub tail : IsTailOf c entries h l.closed.items l.last l.wrong
 
 pub record AreLoaded (c : Contents) (entries : List Meta) (l : Loaded) : Type 0 where

@@ -28,6 +28,8 @@ pub(crate) struct Loaded {
     pub(crate) status: Status,
     pub(crate) closed: Vec<Segment>,
     pub(crate) last: Option<Segment>,
+    // The id that the last file's records begin with.
+    pub(crate) first: u64,
     // Where the last file has a wrong id behind its counted records.
     pub(crate) wrong: Option<u64>,
 }
@@ -48,6 +50,7 @@ impl Loaded {
             },
             closed: Vec::new(alloc),
             last: None,
+            first: 1,
             wrong: None,
         }
     }
@@ -68,11 +71,12 @@ impl Loaded {
     // Whether a roll is legal, but for what its file holds.
     fn may_roll(&self, first: u64, file: u32) -> bool
         ensures { IsTrue result ↔ ((0 < self.now.status.adopted)
-            × ((self.now.status.low < first)
-            × ((first - 1 ≤ self.now.status.length) × (self.now.status.file < file)))) }
+            × ((self.now.status.low < first) × ((self.now.first ≤ first)
+            × ((first - 1 ≤ self.now.status.length) × (self.now.status.file < file))))) }
     {
         0 < self.status.adopted
             && self.status.low < first
+            && self.first <= first
             && first - 1 <= self.status.length
             && self.status.file < file
     }
@@ -124,6 +128,7 @@ impl Loaded {
         self.status.length = (first - 1).saturating_add(found.frames);
         self.status.file = file;
         self.last = Some(found.segment);
+        self.first = first;
         self.wrong = found.wrong;
         Ok(())
     }

@@ -33,25 +33,25 @@ unfolding folded
 promise = refl
 
 -- one record is counted, and the file has another one behind it
-tail : of (Promise 1 ∷ Adopt 1 1 2 1 ∷ []) ≡ Some (record { promised = 1; adopted = 1; low = 0; log = r 1 ∷ r 2 ∷ []; file = 2 })
+tail : of (Promise 1 ∷ Adopt 1 1 2 1 ∷ []) ≡ Some (record { promised = 1; adopted = 1; low = 0; log = r 1 ∷ r 2 ∷ []; file = 2; first = 1 })
 unfolding folded ids_rise
 tail = refl
 
-low : of (Promise 1 ∷ Adopt 1 1 2 2 ∷ Low 1 ∷ []) ≡ Some (record { promised = 1; adopted = 1; low = 1; log = r 1 ∷ r 2 ∷ []; file = 2 })
+low : of (Promise 1 ∷ Adopt 1 1 2 2 ∷ Low 1 ∷ []) ≡ Some (record { promised = 1; adopted = 1; low = 1; log = r 1 ∷ r 2 ∷ []; file = 2; first = 1 })
 unfolding folded ids_rise
 low = refl
 
 -- the records above the low mark are those of the new file
-adoption : of (Promise 1 ∷ Adopt 1 1 2 2 ∷ Low 1 ∷ Promise 3 ∷ Adopt 3 2 3 2 ∷ []) ≡ Some (record { promised = 3; adopted = 3; low = 1; log = r 1 ∷ r 2 ∷ r 3 ∷ []; file = 3 })
+adoption : of (Promise 1 ∷ Adopt 1 1 2 2 ∷ Low 1 ∷ Promise 3 ∷ Adopt 3 2 3 2 ∷ []) ≡ Some (record { promised = 3; adopted = 3; low = 1; log = r 1 ∷ r 2 ∷ r 3 ∷ []; file = 3; first = 2 })
 unfolding folded ids_rise
 adoption = refl
 
-roll : of (Promise 1 ∷ Adopt 1 1 2 2 ∷ Roll 4 3 ∷ []) ≡ Some (record { promised = 1; adopted = 1; low = 0; log = r 1 ∷ r 2 ∷ r 3 ∷ []; file = 4 })
+roll : of (Promise 1 ∷ Adopt 1 1 2 2 ∷ Roll 4 3 ∷ []) ≡ Some (record { promised = 1; adopted = 1; low = 0; log = r 1 ∷ r 2 ∷ r 3 ∷ []; file = 4; first = 3 })
 unfolding folded ids_rise
 roll = refl
 
 -- the file before is closed where the new one begins
-roll_closes : of (Promise 1 ∷ Adopt 1 1 2 2 ∷ Roll 3 2 ∷ []) ≡ Some (record { promised = 1; adopted = 1; low = 0; log = r 1 ∷ r 2 ∷ r 3 ∷ []; file = 3 })
+roll_closes : of (Promise 1 ∷ Adopt 1 1 2 2 ∷ Roll 3 2 ∷ []) ≡ Some (record { promised = 1; adopted = 1; low = 0; log = r 1 ∷ r 2 ∷ r 3 ∷ []; file = 3; first = 2 })
 unfolding folded ids_rise
 roll_closes = refl
 
@@ -106,6 +106,16 @@ roll_past_the_end = refl
 roll_below_low : of (Promise 1 ∷ Adopt 1 1 2 2 ∷ Low 2 ∷ Roll 3 2 ∷ []) ≡ None
 unfolding folded ids_rise
 roll_below_low = refl
+
+-- it would begin below the file that it closes: file 4 begins with record 3
+roll_below_the_last_file : of (Promise 1 ∷ Adopt 1 1 2 2 ∷ Roll 4 3 ∷ Roll 5 2 ∷ []) ≡ None
+unfolding folded ids_rise
+roll_below_the_last_file = refl
+
+-- but where that one begins it may, and none of its records is left
+roll_at_the_last_file : of (Promise 1 ∷ Adopt 1 1 2 2 ∷ Roll 4 3 ∷ Roll 6 3 ∷ []) ≡ Some (record { promised = 1; adopted = 1; low = 0; log = r 1 ∷ r 2 ∷ []; file = 6; first = 3 })
+unfolding folded ids_rise
+roll_at_the_last_file = refl
 
 roll_old_file : of (Promise 1 ∷ Adopt 1 1 2 2 ∷ Roll 2 3 ∷ []) ≡ None
 unfolding folded ids_rise

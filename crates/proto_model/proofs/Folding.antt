@@ -28,15 +28,17 @@ adopt_fits h s first file count is =
 
 pub record RollFits (h : Held) (file first : ℕ) : Type 0 where
   pub later : h.low < first
+  pub begun : h.first ≤ first
   pub within : first ≤ length h.log + 1
   pub above : h.file < file
 
 pub roll_fits : (h : Held) (file first : ℕ) → is_legal h (Roll file first) ≡ true → RollFits h file first
 roll_fits h file first is =
-    let a = and_parts (nat_lt 0 h.adopted) (nat_lt h.low first && (nat_le first (length h.log + 1) && nat_lt h.file file)) is in
-    let b = and_parts (nat_lt h.low first) (nat_le first (length h.log + 1) && nat_lt h.file file) a.1 in
-    let c = and_parts (nat_le first (length h.log + 1)) (nat_lt h.file file) b.1 in
-    record { later = ltb-true h.low first b.0; within = leb-true first (length h.log + 1) c.0; above = ltb-true h.file file c.1 }
+    let a = and_parts (nat_lt 0 h.adopted) (nat_lt h.low first && (nat_le h.first first && (nat_le first (length h.log + 1) && nat_lt h.file file))) is in
+    let b = and_parts (nat_lt h.low first) (nat_le h.first first && (nat_le first (length h.log + 1) && nat_lt h.file file)) a.1 in
+    let c = and_parts (nat_le h.first first) (nat_le first (length h.log + 1) && nat_lt h.file file) b.1 in
+    let d = and_parts (nat_le first (length h.log + 1)) (nat_lt h.file file) c.1 in
+    record { later = ltb-true h.low first b.0; begun = leb-true h.first first c.0; within = leb-true first (length h.log + 1) d.0; above = ltb-true h.file file d.1 }
 
 pub low_fits : (h : Held) (k : ℕ) → is_legal h (Low k) ≡ true → (h.low < k) × (k ≤ length h.log)
 low_fits h k is = let a = and_parts (nat_lt h.low k) (nat_le k (length h.log)) is in (ltb-true h.low k a.0, leb-true k (length h.log) a.1)
@@ -101,12 +103,12 @@ pub same_taken : (tab other : Table) (h : Held) (e : Meta) → IfNames (λ q. ta
 same_taken tab other h (Promise s) same is = (record { legal = is.legal; records = refl }, refl)
 same_taken tab other h (Adopt s first file count) same is = (
   record { legal = is.legal; records = subst (λ (rs : List Record). (nat_le count (length rs) && ids_rise first rs) ≡ true) same is.records },
-  ap (λ (rs : List Record). record h { adopted = s; log = take h.low h.log ++ rs; file = file }) same,
+  ap (λ (rs : List Record). record h { adopted = s; log = take h.low h.log ++ rs; file = file; first = first }) same,
 )
 same_taken tab other h (Low k) same is = (record { legal = is.legal; records = refl }, refl)
 same_taken tab other h (Roll file first) same is = (
   record { legal = is.legal; records = subst (λ (rs : List Record). ids_rise first rs ≡ true) same is.records },
-  ap (λ (rs : List Record). record h { log = take (first - 1) h.log ++ rs; file = file }) same,
+  ap (λ (rs : List Record). record h { log = take (first - 1) h.log ++ rs; file = file; first = first }) same,
 )
 same_taken tab other h (Value n) same is = (record { legal = is.legal; records = refl }, refl)
 
@@ -122,12 +124,12 @@ alike_step : (tab other : Table) (h : Held) (e : Meta) → IfNames (λ q. tab q 
 alike_step tab other h (Promise s) same = (refl, refl)
 alike_step tab other h (Adopt s first file count) same = (
   ap (λ (rs : List Record). nat_le count (length rs) && ids_rise first rs) same,
-  ap (λ (rs : List Record). record h { adopted = s; log = take h.low h.log ++ rs; file = file }) same,
+  ap (λ (rs : List Record). record h { adopted = s; log = take h.low h.log ++ rs; file = file; first = first }) same,
 )
 alike_step tab other h (Low k) same = (refl, refl)
 alike_step tab other h (Roll file first) same = (
   ap (λ (rs : List Record). ids_rise first rs) same,
-  ap (λ (rs : List Record). record h { log = take (first - 1) h.log ++ rs; file = file }) same,
+  ap (λ (rs : List Record). record h { log = take (first - 1) h.log ++ rs; file = file; first = first }) same,
 )
 alike_step tab other h (Value n) same = (refl, refl)
 
@@ -262,8 +264,8 @@ module _ (tab other : Table) (x : List Record) where
       let rise : ids_rise (first + length (tab file)) x ≡ true = subst (λ (n : ℕ). ids_rise n x ≡ true) (omega (arith, long, first_is)) grown.ids in
       let has : (nat_le count (length (tab file ++ x)) && ids_rise first (tab file ++ x)) ≡ true = and_from (nat_le count (length (tab file ++ x))) (ids_rise first (tab file ++ x)) (le-leb count (length (tab file ++ x)) (omega (arith, enough, length-append (tab file) x))) (ids_rise-append first (tab file) x parts.1 rise) in
       let after : held_after other h (Adopt s first file count) ≡ with_more now x =
-      ap (λ (rs : List Record). record h { adopted = s; log = take h.low h.log ++ rs; file = file }) records
-      ∙ ap (λ (l : List Record). record h { adopted = s; log = l; file = file }) (sym (append_assoc (take h.low h.log) (tab file) x)) in (
+      ap (λ (rs : List Record). record h { adopted = s; log = take h.low h.log ++ rs; file = file; first = first }) records
+      ∙ ap (λ (l : List Record). record h { adopted = s; log = l; file = file; first = first }) (sym (append_assoc (take h.low h.log) (tab file) x)) in (
         record { legal = is.legal; records = subst (λ (rs : List Record). (nat_le count (length rs) && ids_rise first rs) ≡ true) (sym records) has },
         subst (λ (g : Held). Folds other es g (with_more end x)) (sym after) (grows_behind es now end here later),
       )
@@ -280,8 +282,8 @@ module _ (tab other : Table) (x : List Record) where
       let long : length end.log ≡ (first - 1) + length (tab file) = ap length log ∙ length-append (take (first - 1) h.log) (tab file) ∙ ap (λ (n : ℕ). n + length (tab file)) (length-take-le (first - 1) h.log (omega arith)) in
       let rise : ids_rise (first + length (tab file)) x ≡ true = subst (λ (n : ℕ). ids_rise n x ≡ true) (omega (arith, long, above)) grown.ids in
       let after : held_after other h (Roll file first) ≡ with_more now x =
-      ap (λ (rs : List Record). record h { log = take (first - 1) h.log ++ rs; file = file }) records
-      ∙ ap (λ (l : List Record). record h { log = l; file = file }) (sym (append_assoc (take (first - 1) h.log) (tab file) x)) in (
+      ap (λ (rs : List Record). record h { log = take (first - 1) h.log ++ rs; file = file; first = first }) records
+      ∙ ap (λ (l : List Record). record h { log = l; file = file; first = first }) (sym (append_assoc (take (first - 1) h.log) (tab file) x)) in (
         record { legal = is.legal; records = subst (λ (rs : List Record). ids_rise first rs ≡ true) (sym records) (ids_rise-append first (tab file) x is.records rise) },
         subst (λ (g : Held). Folds other es g (with_more end x)) (sym after) (grows_behind es now end here later),
       )

@@ -1,5 +1,5 @@
 -- An entry that names a file: where its records go, and the last one that was named.
-use Rattle.std.proofs.Common.{◌≡◌, ℕ, ◌+◌, ◌-◌, ◌<◌, ◌≤◌, true, List, [], ◌∷◌, ◌++◌, length, take, refl, sym, ◌∙◌, ap, subst, arith, Option, Some, None}
+use Rattle.std.proofs.Common.{◌≡◌, ℕ, ◌+◌, ◌-◌, ◌<◌, ◌≤◌, true, List, [], ◌∷◌, ◌++◌, length, take, refl, sym, ◌∙◌, ap, subst, arith, Option, Some}
 use Rattle.tx_model.specs.declared.meta.Meta.{Meta}
 use Rattle.tx_model.specs.declared.meta.Meta.TheVariants.{Promise, Adopt, Low, Roll, Value}
 use Rattle.proto_model.specs.Held.{Held, Table, is_legal, held_after, IfNames}
@@ -36,15 +36,15 @@ names-within h (Value k) n sane is legal = absurd (cc is)
 
 -- what is held then
 pub named-after : (tab : Table) (h : Held) (e : Meta) (n : Naming) → named_by e ≡ Some n → is_legal h e ≡ true
-    → held_after tab h e ≡ record h { adopted = (held_after tab h e).adopted; log = take (n.first - 1) h.log ++ tab n.file; file = n.file }
+    → held_after tab h e ≡ record h { adopted = (held_after tab h e).adopted; log = take (n.first - 1) h.log ++ tab n.file; file = n.file; first = n.first }
 named-after tab h (Promise s) n is legal = absurd (cc is)
 named-after tab h (Adopt s first file count) n is legal =
     let first_is : first ≡ h.low + 1 = (adopt_fits h s first file count legal).first_is in
     let low : h.low ≡ first - 1 = omega (arith, first_is) in
-    ap (λ (k : ℕ). record h { adopted = s; log = take k h.log ++ tab file; file = file }) low
-    ∙ ap (λ (m : Naming). record h { adopted = s; log = take (m.first - 1) h.log ++ tab m.file; file = m.file }) (some_same _ n is)
+    ap (λ (k : ℕ). record h { adopted = s; log = take k h.log ++ tab file; file = file; first = first }) low
+    ∙ ap (λ (m : Naming). record h { adopted = s; log = take (m.first - 1) h.log ++ tab m.file; file = m.file; first = m.first }) (some_same _ n is)
 named-after tab h (Low k) n is legal = absurd (cc is)
-named-after tab h (Roll file first) n is legal = ap (λ (m : Naming). record h { log = take (m.first - 1) h.log ++ tab m.file; file = m.file }) (some_same _ n is)
+named-after tab h (Roll file first) n is legal = ap (λ (m : Naming). record h { log = take (m.first - 1) h.log ++ tab m.file; file = m.file; first = m.first }) (some_same _ n is)
 named-after tab h (Value k) n is legal = absurd (cc is)
 
 pub last_named-more : (before : Option Naming) (es : List Meta) (e : Meta) → last_named before (es ++ e ∷ []) ≡ or_before (named_by e) (last_named before es)

@@ -15,12 +15,13 @@ pub record Held : Type 0 where
   pub adopted : ℕ
   pub low : ℕ
   pub log : List Record
-  -- the greatest number of a file so far
+  -- the greatest number of a file so far, and the id that its records begin with
   pub file : ℕ
+  pub first : ℕ
 
 -- before the first entry
 abbrev pub none_held : Held
-none_held = record { promised = 0; adopted = 0; low = 0; log = []; file = 1 }
+none_held = record { promised = 0; adopted = 0; low = 0; log = []; file = 1; first = 1 }
 
 -- the records that each file holds
 abbrev pub Table : Type 0
@@ -30,14 +31,15 @@ Table = ℕ → List Record
 abbrev pub with_more : Held → List Record → Held
 with_more h records = record h { log = h.log ++ records }
 
--- the entry is legal, but for what the file holds that it names
+-- The entry is legal, but for what the file holds that it names. A Roll closes the last file alone, at a place where all
+-- that is known to be committed stays.
 abbrev pub is_legal : Held → Meta → Bool
 is_legal h (Promise s) = nat_lt h.promised s
 is_legal h (Adopt s first file count) =
     (s == h.promised) && (nat_lt h.adopted s && ((first == h.low + 1) && nat_lt h.file file))
 is_legal h (Low k) = nat_lt h.low k && nat_le k (length h.log)
 is_legal h (Roll file first) =
-    nat_lt 0 h.adopted && (nat_lt h.low first && (nat_le first (length h.log + 1) && nat_lt h.file file))
+    nat_lt 0 h.adopted && (nat_lt h.low first && (nat_le h.first first && (nat_le first (length h.log + 1) && nat_lt h.file file)))
 is_legal h (Value n) = false
 
 -- the file that it names has the records that it needs, with their ids
@@ -51,9 +53,9 @@ has_records tab (Value n) = true
 -- what it makes of that
 abbrev pub held_after : Table → Held → Meta → Held
 held_after tab h (Promise s) = record h { promised = s }
-held_after tab h (Adopt s first file count) = record h { adopted = s; log = take h.low h.log ++ tab file; file = file }
+held_after tab h (Adopt s first file count) = record h { adopted = s; log = take h.low h.log ++ tab file; file = file; first = first }
 held_after tab h (Low k) = record h { low = k }
-held_after tab h (Roll file first) = record h { log = take (first - 1) h.log ++ tab file; file = file }
+held_after tab h (Roll file first) = record h { log = take (first - 1) h.log ++ tab file; file = file; first = first }
 held_after tab h (Value n) = h
 
 -- what the entries make of it, if all are legal

@@ -61,7 +61,7 @@ returns-clause-taken g c = λ t entries h e of names legal adopted.
     let all_same : c.reserve.new.self.items ++ option_to_list c.take.result ≡ l.closed.items ++ option_to_list l.last = ap (λ (is : List Index). is ++ option_to_list c.take.result) same ∙ ap (λ (o : Option Index). l.closed.items ++ option_to_list o) c.take.ensures.value in
     let files = subst (AreClosed all c.args.file) (sym all_same) (closes all entries h l e n of names legal none) in
     let records = c.retire.ensures.cut.records all c.args.file files ∙ ap (λ (is : List Index). take (c.args.first - 1) (records_by all is)) all_same in
-    taken-file all entries h l e n of names legal none c.in_ok-found.found.segment c.in_ok-found.found.frames now_closed (c.retire.ensures.cut.closed all c.args.file files) records _ read refl (sym adopted) refl c.saturating_add-self.ensures refl refl refl
+    taken-file all entries h l e n of names legal none c.in_ok-found.found.segment c.in_ok-found.found.frames now_closed (c.retire.ensures.cut.closed all c.args.file files) records _ read refl (sym adopted) refl c.saturating_add-self.ensures refl refl refl refl
 
 pub retire-requires-clause-small : goal.retire-requires-clause-small
 retire-requires-clause-small g c = c.requires.fit.length (none_wrong c.args.self.now.wrong c.in_default.not-Some)
