@@ -9,7 +9,7 @@ use Rattle.tx_model.specs.Applications.{Application, empty_application, after_pa
 use Rattle.tx_model.proofs.RisingIds.{none-rise, ids_rise-append, ids_rise-id}
 use Rattle.proto_model.specs.declared.client_message.FromServer.{FromServer}
 use Rattle.proto_model.specs.declared.client_message.FromServer.TheVariants as answer
-use Rattle.client_core.specs.Clients.{ClientState, entry_by, applies, applied, is_same_head, takes_heads, client_after}
+use Rattle.client_core.specs.Clients.{ClientState, entry_by, applies, applied, is_same_head, takes_heads, client_step}
 use Rattle.client_core.specs.Applied.{Does, Takes, Builds, Fails, new_client, after_call, after_calls, applied_of, applied_at, applied_by}
 
 -- an older and a newer client, between which these records were applied
@@ -45,7 +45,7 @@ heads_kept : (cl : ClientState) (heads : List Head) (takes : Bool) → Gains cl 
 heads_kept cl heads true = none_gained cl (record cl { heads = heads }) refl refl
 heads_kept cl heads false = none_gained cl cl refl refl
 
-answer_gains : (cl : ClientState) (m : FromServer) → Gains cl (client_after cl m) (applied_of cl m)
+answer_gains : (cl : ClientState) (m : FromServer) → Gains cl (client_step cl m) (applied_of cl m)
 answer_gains cl (answer.Heads from committed heads) = heads_kept cl heads (takes_heads cl from heads)
 answer_gains cl (answer.Entry r) = entry_gains cl r cl.heads
 answer_gains cl m = none_gained cl cl refl refl

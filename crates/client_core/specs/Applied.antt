@@ -3,7 +3,7 @@ use Rattle.std.specs.Prelude.{ℕ, if◌then◌else◌, List, [], ◌∷◌, ◌
 use Rattle.tx_model.specs.declared.record.Record.{Record}
 use Rattle.proto_model.specs.declared.client_message.FromServer.{FromServer}
 use Rattle.proto_model.specs.declared.client_message.FromServer.TheVariants.{Entry}
-use Rattle.client_core.specs.Clients.{ClientState, fresh_client, client_after, after_build, applies}
+use Rattle.client_core.specs.Clients.{ClientState, fresh_client, client_step, after_build, applies}
 
 -- what a call does: it takes an answer, builds a transaction, or is refused and changes nothing, as where memory runs out
 pub data Does : Type 0 where
@@ -16,7 +16,7 @@ abbrev pub new_client : ℕ → ClientState
 new_client request = record fresh_client { request = request }
 
 abbrev pub after_call : ClientState → Does → ClientState
-after_call cl (Takes m) = client_after cl m
+after_call cl (Takes m) = client_step cl m
 after_call cl Builds = after_build cl
 after_call cl Fails = cl
 

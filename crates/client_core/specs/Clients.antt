@@ -107,8 +107,8 @@ after_answer next cl (Heads from committed heads) = after_heads cl from heads
 after_answer next cl (Entry r) = after_entry next cl r
 after_answer next cl _ = cl
 
-abbrev pub client_after : ClientState → FromServer → ClientState
-client_after cl m = after_answer after_payload cl m
+abbrev pub client_step : ClientState → FromServer → ClientState
+client_step cl m = after_answer after_payload cl m
 
 -- ---- whether the client moved: it took heads, or applied a record
 

@@ -6,7 +6,7 @@ use Rattle.proto_model.specs.declared.client_message.ToServer.{ToServer}
 use Rattle.proto_model.specs.declared.client_message.ToServer.TheVariants as to_server
 use Rattle.proto_model.specs.declared.client_message.FromServer.{FromServer}
 use Rattle.wire_codec.specs.declared.message.Message.TheVariants as of
-use Rattle.client_core.specs.Clients.{ClientState, built, after_build, next_ask, moves, client_after}
+use Rattle.client_core.specs.Clients.{ClientState, built, after_build, next_ask, moves, client_step}
 use Rattle.client_core.specs.Building.{build_refusal}
 use Rattle.schedule_text.specs.declared.lines.script.ScriptLine.{ScriptLine}
 use Rattle.schedule_text.specs.declared.lines.script.ScriptLine.TheVariants as script
@@ -69,7 +69,7 @@ pub record IsMove (port : ℕ) (a b : Seat) : Type 0 where
   pub answer : FromServer
   pub asked : IsAsk port (next_ask a.client) a.past b.past (Ok answer)
   pub moved : moves a.client answer ≡ true
-  pub client : b.client ≡ client_after a.client answer
+  pub client : b.client ≡ client_step a.client answer
 
 -- so many moves in a row
 pub data AreMoves (port : ℕ) (a : Seat) : ℕ → Seat → Type 0 where
@@ -100,7 +100,7 @@ StopsBy port a b Memory = IsTried port (of.ToServer (next_ask a.client)) a.past 
 StopsBy port a b _ = ⊥
 
 -- moves, and then an ask that ends the script; or there is no memory for the line after as many moves as are made at most
-pub record IsUnsynced (port : ℕ) (a b : Seat) (end : End) : Type 0 where
+pub record StopsSync (port : ℕ) (a b : Seat) (end : End) : Type 0 where
   pub count : ℕ
   pub before : Seat
   pub moved : AreMoves port a count before
@@ -111,7 +111,7 @@ pub record IsUnsynced (port : ℕ) (a b : Seat) (end : End) : Type 0 where
 -- How an answer to an ask was taken: it ends the asks, and the line says why; it moves the client; or it does neither.
 pub record IsTakenSo (answer : FromServer) (was : Taken) (cl cl' : ClientState) (old new : List ℕ) : Type 0 where
   pub said : was ≡ taken.Said → (line : List ℕ) × (sync_line cl answer ≡ Some line) × (new ≡ old ++ line) × (cl' ≡ cl)
-  pub moved : was ≡ taken.Moved → (moves cl answer ≡ true) × (cl' ≡ client_after cl answer) × (new ≡ old)
+  pub moved : was ≡ taken.Moved → (moves cl answer ≡ true) × (cl' ≡ client_step cl answer) × (new ≡ old)
   pub other : was ≡ taken.Other → (sync_line cl answer ≡ None) × (moves cl answer ≡ false)
 
 -- one ask: its answer ends the asks, or moves the client
@@ -132,6 +132,6 @@ DoesLine id port script.Flush a b line = (b.client ≡ a.client) × IsSaid port 
 -- why a line ends the script
 abbrev pub FailsLine : ℕ → ℕ → ScriptLine → Seat → Seat → End → Type 0
 FailsLine id port (script.Append writes reads ops) a b end = IsUnsubmitted id port writes reads ops a b end
-FailsLine id port script.Sync a b end = IsUnsynced port a b end
+FailsLine id port script.Sync a b end = StopsSync port a b end
 FailsLine id port script.App a b end = (end ≡ Memory) × (b ≡ a)
 FailsLine id port script.Flush a b end = IsUnsaid port to_server.Flush flush_line a.past b.past end

@@ -4,7 +4,7 @@ ghost use Rattle.client_core.specs.Clients.{next_ask};
 ghost use Rattle.client_core.specs.States.{client_state};
 ghost use Rattle.client_loop.specs.Asks.{IsAskEnd};
 ghost use Rattle.client_loop.specs.Ends.{Counts};
-ghost use Rattle.client_loop.specs.Scripts.{seat, IsTakenSo, IsAskedOnce, StopsBy, IsSynced, IsUnsynced};
+ghost use Rattle.client_loop.specs.Scripts.{seat, IsTakenSo, IsAskedOnce, StopsBy, IsSynced, StopsSync};
 
 use crate::ask::ask;
 use crate::end::End;
@@ -96,7 +96,7 @@ pub fn sync<L: Link>(
         (seat (client_state client.old) (L.transcript link.old))
         (seat (client_state client.new) (L.transcript link.new)) line
         × (text.new.items ≡ text.old.items ++ line)) }
-    ensures unsynced { IfErr result (λ end. L.tells → IsUnsynced port
+    ensures unsynced { IfErr result (λ end. L.tells → StopsSync port
         (seat (client_state client.old) (L.transcript link.old))
         (seat (client_state client.new) (L.transcript link.new)) end) }
     ensures same { client.new.client ≡ client.old.client }

@@ -6,7 +6,7 @@ use Rattle.proto_model.specs.Quorums.{is_within}
 use Rattle.proto_model.specs.Replicas.{replica_after}
 use Rattle.proto_model.specs.Servers.{ServerState, server_after, server_answers}
 use Rattle.proto_model.specs.Serving.{served_after, served_answers}
-use Rattle.client_core.specs.Clients.{client_after}
+use Rattle.client_core.specs.Clients.{client_step}
 use Rattle.client_core.specs.Building.{build_refusal}
 use Rattle.session_register.specs.declared.register.Cas.{Cas}
 use Rattle.session_register.specs.declared.register.Cas.TheVariants as cas
@@ -73,8 +73,8 @@ mail_alike w files other from (party.Node i) (mail.ToServer m) = refl
 mail_alike w files other from (party.Client c) (mail.ToServer m) = refl
 mail_alike w files other from (party.Client c) (mail.FromServer m) = by_test (is_within w.cluster.clients c)
   where
-    by_test : (b : Bool) → AreAlike (with_sent (if b then with_client w c (client_after (w.clients c) m) else w) [])
-        (with_sent (if b then with_client (bare w) c (client_after (w.clients c) m) else bare w) [])
+    by_test : (b : Bool) → AreAlike (with_sent (if b then with_client w c (client_step (w.clients c) m) else w) [])
+        (with_sent (if b then with_client (bare w) c (client_step (w.clients c) m) else bare w) [])
     by_test true = refl
     by_test false = refl
 mail_alike w files other from (party.Node i) (mail.FromServer m) = refl

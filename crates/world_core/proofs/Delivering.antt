@@ -12,7 +12,7 @@ use Rattle.proto_model.specs.Quorums.{is_within}
 use Rattle.proto_model.specs.Replicas.{ReplicaState, replica_after, replica_reply}
 use Rattle.proto_model.specs.Servers.{ServerState, Waiting, server_after, server_answers}
 use Rattle.proto_model.specs.Serving.{served_after, served_answers}
-use Rattle.client_core.specs.Clients.{ClientState, client_after}
+use Rattle.client_core.specs.Clients.{ClientState, client_step}
 use Rattle.proto_model.specs.Validity.{HasPlace, IsValidFromNode}
 use Rattle.partition_server.specs.Answers.{addressed}
 use Rattle.net_model.specs.declared.mail.Party.{Party}
@@ -167,7 +167,7 @@ wish_lost p ss from to m v same empty out =
 -- ---- answers to clients
 
 pub answer_delivers : (p : Parties) (cs : List ClientState) (from to : Party) (client : ℕ) (m : FromServer) (mark : ℕ) → to ≡ party.Client client → is_within p.cluster.clients client ≡ true
-    → clients_of cs ≡ put (clients_of p.clients) client (client_after (clients_of p.clients client) m) → mark ≡ (client_after (clients_of p.clients client) m).mark
+    → clients_of cs ≡ put (clients_of p.clients) client (client_step (clients_of p.clients client) m) → mark ≡ (client_step (clients_of p.clients client) m).mark
     → Delivers p (record p { clients = cs }) from to (mail.FromServer m) (got.Client client mark)
 answer_delivers p cs from to client m mark there within clients is =
     let P : Party → Type 0 = λ x. Delivers p (record p { clients = cs }) from x (mail.FromServer m) (got.Client client mark) in

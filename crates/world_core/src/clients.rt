@@ -1,7 +1,7 @@
 ghost use Rattle.std.specs.Prelude.{◌≡◌, ◌≤◌, ◌⊎◌, List, map, length, Some, None, IfOk, IfErr, OnOk, OnErr};
 ghost use Rattle.std.specs.List.{AllByRecursion};
 ghost use Rattle.proto_model.specs.Tables.{put};
-ghost use Rattle.client_core.specs.Clients.{fresh_client, client_after, built, after_build, next_ask};
+ghost use Rattle.client_core.specs.Clients.{fresh_client, client_step, built, after_build, next_ask};
 ghost use Rattle.client_core.specs.States.{client_state};
 ghost use Rattle.client_core.specs.Building.{build_refusal};
 ghost use Rattle.proto_model.specs.Validity.{HasPlace};
@@ -63,8 +63,8 @@ pub(crate) fn take(
     requires place { HasPlace m.now }
     requires numbers { AreNumbered 1 clients.old.items }
     ensures clients { OnOk result (clients_of (map client_state clients.new.items) ≡
-        put (clients_of (map client_state clients.old.items)) c (client_after (clients_of (map client_state clients.old.items) c) m.now)) }
-    ensures mark { IfOk result (λ mark. mark ≡ (client_after (clients_of (map client_state clients.old.items) c) m.now).mark) }
+        put (clients_of (map client_state clients.old.items)) c (client_step (clients_of (map client_state clients.old.items) c) m.now)) }
+    ensures mark { IfOk result (λ mark. mark ≡ (client_step (clients_of (map client_state clients.old.items) c) m.now).mark) }
     ensures size { length clients.new.items ≡ length clients.old.items }
     ensures numbers { AreNumbered 1 clients.new.items }
 {

@@ -1,6 +1,6 @@
 -- A delivery, whatever it is of.
 use Rattle.std.proofs.Common.{◌≡◌, ℕ, ◌+◌, ◌&&◌, nat_le, if◌then◌else◌, Bool, true, false, refl, List, [], ◌∷◌, Option, Some, None, map, filter}
-use Rattle.client_core.specs.Clients.{client_after}
+use Rattle.client_core.specs.Clients.{client_step}
 use Rattle.proto_model.specs.Quorums.{is_within}
 use Rattle.proto_model.specs.Replicas.{replica_after}
 use Rattle.proto_model.specs.Servers.{server_after, server_answers}
@@ -96,10 +96,10 @@ from_server_delivered w h (party.Server v) m = nothing_sent w h
 from_server_delivered w h (party.Client c) m = by_test (is_within w.cluster.clients c)
   where
     new : WorldState
-    new = record w { clients = put w.clients c (client_after (w.clients c) m) }
+    new = record w { clients = put w.clients c (client_step (w.clients c) m) }
 
     by_test : (b : Bool) → Onward w (with_sent (if b then new else w) [])
-    by_test true = then_sent w new [] (clients_event w h (put w.clients c (client_after (w.clients c) m))) tt
+    by_test true = then_sent w new [] (clients_event w h (put w.clients c (client_step (w.clients c) m))) tt
     by_test false = nothing_sent w h
 
 pub mail_delivered : (w : WorldState) → Holds w → (files : ℕ → List ℕ) (from to : Party) (m : Mail) → MailWarrant w from to m

@@ -1,7 +1,7 @@
 -- Where transactions come from: what each event passes on.
 use Rattle.std.proofs.Common.{◌≡◌, ℕ, ◌+◌, ◌-◌, ◌&&◌, max, if◌then◌else◌, Bool, true, false, refl, sym, inl, inr, subst, List, [], ◌∷◌, length, take, drop, Option, Some, None, map, filter}
 use Rattle.proto_model.proofs.TableLemmas.{all_put, AllByRecursion-append}
-use Rattle.client_core.specs.Clients.{ClientState, built, after_build, ask_by, next_ask, client_after}
+use Rattle.client_core.specs.Clients.{ClientState, built, after_build, ask_by, next_ask, client_step}
 use Rattle.proto_model.specs.Quorums.{is_within}
 use Rattle.proto_model.specs.Replicas.{ReplicaState, replica_after}
 use Rattle.proto_model.specs.Sending.{next_messages}
@@ -183,9 +183,9 @@ mail_made P w files from (party.Node i) (mail.ToServer m) g f = with_sent_made P
 mail_made P w files from (party.Client c) (mail.ToServer m) g f = with_sent_made P w [] g tt
 mail_made P w files from (party.Client c) (mail.FromServer m) g f = by_test (is_within w.cluster.clients c)
   where
-    by_test : (b : Bool) → WorldMade P (with_sent (if b then record w { clients = put w.clients c (client_after (w.clients c) m) } else w) [])
-    by_test true = with_sent_made P (record w { clients = put w.clients c (client_after (w.clients c) m) }) []
-        (light_made P w w.number w.kept (put w.clients c (client_after (w.clients c) m)) w.cursor g) tt
+    by_test : (b : Bool) → WorldMade P (with_sent (if b then record w { clients = put w.clients c (client_step (w.clients c) m) } else w) [])
+    by_test true = with_sent_made P (record w { clients = put w.clients c (client_step (w.clients c) m) }) []
+        (light_made P w w.number w.kept (put w.clients c (client_step (w.clients c) m)) w.cursor g) tt
     by_test false = with_sent_made P w [] g tt
 mail_made P w files from (party.Node i) (mail.FromServer m) g f = with_sent_made P w [] g tt
 mail_made P w files from (party.Server v) (mail.FromServer m) g f = with_sent_made P w [] g tt

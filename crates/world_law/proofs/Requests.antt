@@ -1,7 +1,7 @@
 -- Which transactions clients sent, and that no two of them have one request.
 use Rattle.std.proofs.Common.{◌≡◌, ℕ, ◌+◌, ◌<◌, ◌≤◌, ◌⊎◌, ◌==◌, ◌&&◌, if◌then◌else◌, Bool, true, false, arith, refl, ap, sym, ◌∙◌, inl, inr, subst, List, [], ◌∷◌, ◌++◌, Option, Some, None, append-nil, map, filter}
 use Rattle.proto_model.proofs.TableLemmas.{either}
-use Rattle.client_core.specs.Clients.{ClientState, built, after_build, ask_by, is_same_head, takes_heads, entry_by, client_after}
+use Rattle.client_core.specs.Clients.{ClientState, built, after_build, ask_by, is_same_head, takes_heads, entry_by, client_step}
 use Rattle.proto_model.specs.Quorums.{is_within}
 use Rattle.proto_model.specs.Replicas.{replica_after}
 use Rattle.proto_model.specs.Sending.{next_messages}
@@ -110,7 +110,7 @@ entry_count cl r (head ∷ rest) =
     either (λ (x : ClientState). x.request ≡ cl.request) (r.id == cl.mark + 1) (if is_same_head head (head_of r) then after else none) cl
     (either (λ (x : ClientState). x.request ≡ cl.request) (is_same_head head (head_of r)) after none refl refl) refl
 
-client_count : (cl : ClientState) (m : FromServer) → (client_after cl m).request ≡ cl.request
+client_count : (cl : ClientState) (m : FromServer) → (client_step cl m).request ≡ cl.request
 client_count cl (answer.Heads from committed heads) =
     either (λ (x : ClientState). x.request ≡ cl.request) (takes_heads cl from heads) (record cl { heads = heads }) cl refl refl
 client_count cl (answer.Entry r) = entry_count cl r cl.heads
@@ -182,12 +182,12 @@ mail_asks w files from (party.Client c) (mail.ToServer m) = quiet_asks w (with_s
 mail_asks w files from (party.Client c) (mail.FromServer m) = by_test (is_within w.cluster.clients c)
   where
     clients : ℕ → ClientState
-    clients = put w.clients c (client_after (w.clients c) m)
+    clients = put w.clients c (client_step (w.clients c) m)
 
     by_test : (b : Bool) → StepAsks w (with_sent (if b then record w { clients = clients } else w) [])
     by_test true = quiet_asks w (with_sent (record w { clients = clients }) []) [] refl tt
-        (one_client w.clients c (client_after (w.clients c) m)
-        (same_count (w.clients c).request (client_after (w.clients c) m).request (client_count (w.clients c) m)))
+        (one_client w.clients c (client_step (w.clients c) m)
+        (same_count (w.clients c).request (client_step (w.clients c) m).request (client_count (w.clients c) m)))
     by_test false = quiet_asks w (with_sent w []) [] refl tt (λ k. omega arith)
 mail_asks w files from (party.Node i) (mail.FromServer m) = quiet_asks w (with_sent w []) [] refl tt (λ c. omega arith)
 mail_asks w files from (party.Server v) (mail.FromServer m) = quiet_asks w (with_sent w []) [] refl tt (λ c. omega arith)

@@ -1,6 +1,6 @@
 -- What clients are told and what they apply stands in the one log.
 use Rattle.std.proofs.Common.{◌≡◌, ℕ, zero, suc, ◌+◌, ◌-◌, ◌==◌, max, if◌then◌else◌, arith, refl, ap, sym, ◌∙◌, subst, List, [], ◌∷◌, take, drop, slice_get, Option, Some, None, map}
-use Rattle.client_core.specs.Clients.{ClientState, is_same_head, takes_heads, entry_by, client_after}
+use Rattle.client_core.specs.Clients.{ClientState, is_same_head, takes_heads, entry_by, client_step}
 use Rattle.proto_model.specs.Servers.{Config, ServerState, commit_mark}
 use Rattle.proto_model.specs.Serving.{append_refusal, append_answers, committed_log, feed, shut_in, unless_shut, entry_or, served_answers}
 use Rattle.proto_model.specs.declared.client_message.FromServer.{FromServer}
@@ -86,7 +86,7 @@ entry_applied log cl r (head ∷ rest) is at =
     (λ id. if_each (IsApplied log) (is_same_head head (head_of r)) after none (λ _. applies log cl r rest is at (equal r.id (cl.mark + 1) id)) (λ _. same))
     (λ _. is)
 
-pub client_applied : (log : List Record) (cl : ClientState) (m : FromServer) → IsApplied log cl → Stands log m → IsApplied log (client_after cl m)
+pub client_applied : (log : List Record) (cl : ClientState) (m : FromServer) → IsApplied log cl → Stands log m → IsApplied log (client_step cl m)
 client_applied log cl (answer.Heads from committed heads) is at =
     if_each (IsApplied log) (takes_heads cl from heads) (record cl { heads = heads }) cl (λ _. record { fits = is.fits; serial = is.serial }) (λ _. is)
 client_applied log cl (answer.Entry r) is at = entry_applied log cl r cl.heads is at

@@ -1,6 +1,6 @@
 -- Deliveries and the other events leave served what they find served.
 use Rattle.std.proofs.Common.{◌≡◌, ℕ, ◌+◌, ◌≤◌, ◌==◌, ◌&&◌, if◌then◌else◌, Bool, true, false, arith, refl, inl, List, [], ◌∷◌, length-take, Option, Some, None, map, filter}
-use Rattle.client_core.specs.Clients.{ClientState, after_build, client_after}
+use Rattle.client_core.specs.Clients.{ClientState, after_build, client_step}
 use Rattle.proto_model.specs.Quorums.{is_within}
 use Rattle.proto_model.specs.Replicas.{replica_after}
 use Rattle.proto_model.specs.Servers.{Waiting, ServerState, drawn, idle_server, commit_mark, server_after, server_answers}
@@ -109,7 +109,7 @@ from_server_served w h (party.Server v) m fits o s = sent_served w (with_sent w 
 from_server_served w h (party.Client c) m fits o s = by_test (is_within w.cluster.clients c) o
   where
     after : ClientState
-    after = client_after (w.clients c) m
+    after = client_step (w.clients c) m
 
     by_test : (b : Bool) → Onward w (with_sent (if b then record w { clients = put w.clients c after } else w) [])
         → Served (with_sent (if b then record w { clients = put w.clients c after } else w) [])

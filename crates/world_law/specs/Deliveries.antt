@@ -8,7 +8,7 @@ use Rattle.proto_model.specs.Quorums.{is_within}
 use Rattle.proto_model.specs.Replicas.{replica_after, replica_reply}
 use Rattle.proto_model.specs.Servers.{Waiting, server_after, server_answers}
 use Rattle.proto_model.specs.Serving.{served_after, served_answers, committed_answer}
-use Rattle.client_core.specs.Clients.{client_after}
+use Rattle.client_core.specs.Clients.{client_step}
 use Rattle.net_model.specs.declared.mail.Party.{Party}
 use Rattle.net_model.specs.declared.mail.Party.TheVariants as party
 use Rattle.net_model.specs.declared.mail.Mail.{Mail}
@@ -76,7 +76,7 @@ to_server_sends w from (party.Client client) m = []
 
 abbrev pub from_server_taken : WorldState → Party → FromServer → WorldState
 from_server_taken w (party.Client client) m =
-    if is_within w.cluster.clients client then with_client w client (client_after (w.clients client) m) else w
+    if is_within w.cluster.clients client then with_client w client (client_step (w.clients client) m) else w
 from_server_taken w (party.Node node) m = w
 from_server_taken w (party.Server server) m = w
 

@@ -12,7 +12,7 @@ use Rattle.proto_model.specs.Quorums.{is_within}
 use Rattle.proto_model.specs.Replicas.{ReplicaState}
 use Rattle.proto_model.specs.Crashes.{unstaged}
 use Rattle.proto_model.specs.Servers.{Config, ServerState, commit_mark}
-use Rattle.client_core.specs.Clients.{ClientState, next_ask, client_after}
+use Rattle.client_core.specs.Clients.{ClientState, next_ask, client_step}
 use Rattle.client_core.specs.Building.{build_refusal}
 use Rattle.net_model.specs.declared.event.Event.{Event}
 use Rattle.net_model.specs.declared.event.Event.TheVariants.{Read, Cas, Waste, Tick, Next, Skip, Deliver, Tear, Crash, Restart, Reboot, Append, Ask, Flush, Show, Server, App, Log, Dump}
@@ -63,7 +63,7 @@ submission_outcome w e (Some fault) = outcome.Refused fault
 -- a client that got an answer shows its mark
 abbrev pub got_outcome : WorldState → Party → FromServer → Outcome
 got_outcome w (party.Client client) m =
-    if is_within w.cluster.clients client then outcome.Client client (client_after (w.clients client) m).mark else outcome.Quiet
+    if is_within w.cluster.clients client then outcome.Client client (client_step (w.clients client) m).mark else outcome.Quiet
 got_outcome w (party.Node node) m = outcome.Quiet
 got_outcome w (party.Server server) m = outcome.Quiet
 
