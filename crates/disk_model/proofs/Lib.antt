@@ -11,6 +11,7 @@ pub mod Told
 pub mod Filled
 pub mod Firm
 pub mod Trimmed
+pub mod Wants
 pub mod Left
 pub mod Pieces
 pub mod Stretches

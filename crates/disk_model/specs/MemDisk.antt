@@ -16,9 +16,10 @@ pub record MemState : Type 0 where
   -- the numbers of the calls that fail, counted from 1
   pub fails : List ℕ
   pub fuse : Fuse
-  -- how many calls and faults there were
+  -- how many calls and faults there were, and how often memory ran out
   pub calls : ℕ
   pub faults : ℕ
+  pub wants : ℕ
 
 -- its files now and before
 abbrev pub mem_history : MemState → History
@@ -88,9 +89,9 @@ write_after s file at bytes (Err Failed) = record s {
   calls = counted s.calls;
   faults = counted s.faults;
 }
-write_after s file at bytes (Err Memory) = s
+write_after s file at bytes (Err Memory) = record s { wants = counted s.wants }
 
 abbrev pub cut_after : MemState → ℕ → ℕ → Result Unit Fault → MemState
 cut_after s file len (Ok _) = record s { changes = s.changes ++ Cut file len ∷ []; calls = counted s.calls }
 cut_after s file len (Err Failed) = refused s
-cut_after s file len (Err Memory) = s
+cut_after s file len (Err Memory) = record s { wants = counted s.wants }

@@ -1,5 +1,5 @@
 ghost use Rattle.std.specs.Prelude.{◌≡◌, ◌+◌, ◌^◌, ◌<◌, ◌≤◌, ℕ, length, take, Err, IfOk, OnOk, IsErr};
-ghost use Rattle.io_core.specs.Causes.{HasCause, HasCauseOrMemory};
+ghost use Rattle.io_core.specs.Causes.{HasCause, HasCauseOrMemory, HasWant};
 ghost use Rattle.disk_model.specs.File.{IsSound, IsPlain, IsDuring, written, shortened, settled, overlaid};
 ghost use Rattle.disk_model.specs.History.{History, Always, EachMoment, IsRead, KeepsWorking};
 
@@ -11,7 +11,8 @@ use io_core::{Failed, Fault};
 /// the places that were written, cut away or newly reached, and leaves the others as they are. A clause on moments
 /// speaks of each one since the call's start, whatever the result is.
 ///
-/// A call answers a fault only where the count of faults rose, and after running out of memory nothing has changed.
+/// A call answers a fault only where the count of faults rose, and runs out of memory only where that is counted too.
+/// After running out of memory nothing has changed.
 pub trait Disk {
     /// Whether it tells its content. A real disk doesn't.
     ghost tells: { Type 0 };
@@ -24,6 +25,9 @@ pub trait Disk {
 
     /// How often a call has failed, up to the greatest `u64`. Running out of memory is no fault.
     ghost faults: { Self → ℕ };
+
+    /// How often memory ran out, up to the greatest `u64`.
+    ghost wants: { Self → ℕ };
 
     /// Whether no call was chosen to fail, so that one fails only by a fuse, up to the crash that takes it away.
     ghost reliable: { Self → Type 0 };
@@ -66,6 +70,7 @@ pub trait Disk {
         ensures room { OnOk result (at + length bytes.now < 2 ^ 64) }
         ensures memory { result ≡ Err Fault.Memory → tells → history self.new ≡ history self.old }
         ensures cause { HasCauseOrMemory (faults self.old) (faults self.new) result }
+        ensures want { HasWant (wants self.old) (wants self.new) result }
         ensures keeps { KeepsWorking reliable unfailing self.old self.new
             (result ≡ Err Fault.Failed) };
 
@@ -78,6 +83,7 @@ pub trait Disk {
             ((history self.new).now file).reads ≡ take len ((history self.old).now file).reads) }
         ensures memory { result ≡ Err Fault.Memory → tells → history self.new ≡ history self.old }
         ensures cause { HasCauseOrMemory (faults self.old) (faults self.new) result }
+        ensures want { HasWant (wants self.old) (wants self.new) result }
         ensures keeps { KeepsWorking reliable unfailing self.old self.new
             (result ≡ Err Fault.Failed) };
 
@@ -106,6 +112,8 @@ impl<T: Disk> Disk for &mut T {
     ghost history = { λ d. T.history d.now };
 
     ghost faults = { λ d. T.faults d.now };
+
+    ghost wants = { λ d. T.wants d.now };
 
     ghost reliable = { λ d. T.reliable d.now };
 

@@ -1,5 +1,5 @@
-ghost use Rattle.std.specs.Prelude.{◌≡◌, ◌⊎◌, ◌↔◌, ◌+◌, ◌-◌, ◌^◌, ◌<◌, ◌≤◌, [], ◌∷◌, ◌++◌, ◌==◌, ℕ, List, length, take, min, if◌then◌else◌, Contains, IsTrue, IsErr, Err, IfOk, OnOk, IsErrOf, OnErr};
-ghost use Rattle.io_core.specs.Causes.{HasCause, HasCauseOrMemory};
+ghost use Rattle.std.specs.Prelude.{◌≡◌, ◌≢◌, ◌⊎◌, ◌↔◌, ◌+◌, ◌-◌, ◌^◌, ◌<◌, ◌≤◌, [], ◌∷◌, ◌++◌, ◌==◌, ℕ, List, length, take, min, if◌then◌else◌, Contains, IsTrue, IsErr, Err, IfOk, OnOk, IsErrOf, OnErr};
+ghost use Rattle.io_core.specs.Causes.{counted, HasCause, HasCauseOrMemory, HasWant};
 ghost use Rattle.disk_model.specs.File.{IsDuring, written, shortened, settled, overlaid};
 ghost use Rattle.disk_model.specs.History.{EachMoment, IsRead, KeepsWorking};
 ghost use Rattle.disk_model.specs.Replay.{bytes_of, IsFrontWritten};
@@ -27,6 +27,7 @@ pub struct MemDisk {
     fuse: Fuse,
     calls: u64,
     faults: u64,
+    wants: u64,
 }
 
 impl Model for MemDisk {
@@ -37,7 +38,7 @@ impl Model for MemDisk {
     ghost use Rattle.std.specs.Prelude.{◌≡◌, ℕ};
     ghost use Rattle.disk_model.specs.Replay.{bytes_of, history_of};
 
-    ghost view = { λ m. record { changes = m.changes.items; fails = m.fails.items; fuse = m.fuse; calls = m.calls; faults = m.faults } };
+    ghost view = { λ m. record { changes = m.changes.items; fails = m.fails.items; fuse = m.fuse; calls = m.calls; faults = m.faults; wants = m.wants } };
 
     ghost invariant = { λ m. (q : ℕ) → bytes_of m.files q
         ≡ ((history_of m.changes.items).now q).reads };
@@ -46,7 +47,7 @@ impl Model for MemDisk {
 impl MemDisk {
     /// An empty disk.
     pub fn new(alloc: Global) -> MemDisk
-        ensures { result ≡ record { changes = []; fails = []; fuse = Off; calls = 0; faults = 0 } }
+        ensures { result ≡ record { changes = []; fails = []; fuse = Off; calls = 0; faults = 0; wants = 0 } }
     {
         MemDisk::failing(alloc, Vec::new(alloc))
     }
@@ -55,7 +56,7 @@ impl MemDisk {
     /// call that runs out of memory is not counted.
     pub fn failing(alloc: Global, fails: Vec<u64>) -> MemDisk
         ensures { result
-            ≡ record { changes = []; fails = fails.items; fuse = Off; calls = 0; faults = 0 } }
+            ≡ record { changes = []; fails = fails.items; fuse = Off; calls = 0; faults = 0; wants = 0 } }
     {
         MemDisk {
             alloc,
@@ -65,6 +66,7 @@ impl MemDisk {
             fuse: Fuse::Off,
             calls: 0,
             faults: 0,
+            wants: 0,
         }
     }
 
@@ -179,6 +181,95 @@ fn shorten(files: &mut BTreeMap<u32, Vec<u8>>, file: u32, len: usize)
     }
 }
 
+// The calls that may run out of memory, which is not counted yet.
+impl MemDisk {
+    fn try_write(&mut self, file: u32, at: u64, bytes: &[u8]) -> Result<(), Fault>
+        requires { at ≤ length ((mem_history self.old).now file).reads }
+        ensures moments { EachMoment file
+            (IsDuring (at ≡ length ((mem_history self.old).now file).reads)
+            (written at bytes.now ((mem_history self.old).now file)))
+            (mem_history self.old) (mem_history self.new) }
+        ensures reads { OnOk result (
+            ((mem_history self.new).now file).reads
+            ≡ overlaid ((mem_history self.old).now file).reads at bytes.now) }
+        ensures room { OnOk result (at + length bytes.now < 2 ^ 64) }
+        ensures memory { result ≡ Err Fault.Memory → self.new ≡ self.old }
+        ensures cause { HasCauseOrMemory self.old.faults self.new.faults result }
+        ensures keeps { KeepsWorking IsReliable IsUnfailing self.old self.new
+            (result ≡ Err Fault.Failed) }
+
+        // Meanwhile the file reads as before with a front of the bytes written, and a crash leaves just that.
+        ensures fronts { EachMoment file
+            (λ f. IsFrontWritten at (let_through self.old.fuse (length bytes.now)) bytes.now
+            ((mem_history self.old).now file).reads f)
+            (mem_history self.old) (mem_history self.new) }
+
+        // A call that must fail changes no byte. Any other one keeps what the fuse lets through, and fails where that
+        // is not all.
+        ensures must { MustFail self.old →
+            (result ≡ Err Fault.Failed) × (self.new ≡ refused self.old) }
+        ensures fails { IsErrOf result Fault.Failed →
+            MustFail self.old ⊎ (let_through self.old.fuse (length bytes.now) < length bytes.now) }
+        ensures all { OnOk result
+            (let_through self.old.fuse (length bytes.now) ≡ length bytes.now) }
+        ensures after { (result ≢ Err Fault.Memory) → ¬ MustFail self.old →
+            self.new ≡ write_after self.old file at bytes.now result }
+    {
+        if self.refuses() {
+            return Err(Fault::Failed);
+        }
+        let kept = self.fuse.let_through(bytes.len());
+        let (front, _) = bytes.split_at(kept);
+        let change = Change::Write(file, at, Bytes::from_slice(self.alloc, front)?);
+        self.changes.reserve(1)?;
+        put(self.alloc, &mut self.files, file, at as usize, front)?;
+        self.changes.push(change)?;
+        self.fuse = self.fuse.used(bytes.len());
+        self.calls = self.calls.saturating_add(1);
+        if kept < bytes.len() {
+            self.faults = self.faults.saturating_add(1);
+            return Err(Fault::Failed);
+        }
+        Ok(())
+    }
+
+    fn try_cut(&mut self, file: u32, len: u64) -> Result<(), Fault>
+        ensures moments { EachMoment file
+            (IsDuring (Unit {0}) (shortened len ((mem_history self.old).now file)))
+            (mem_history self.old) (mem_history self.new) }
+        ensures reads { OnOk result (
+            ((mem_history self.new).now file).reads
+            ≡ take len ((mem_history self.old).now file).reads) }
+        ensures memory { result ≡ Err Fault.Memory → self.new ≡ self.old }
+        ensures cause { HasCauseOrMemory self.old.faults self.new.faults result }
+        ensures keeps { KeepsWorking IsReliable IsUnfailing self.old self.new
+            (result ≡ Err Fault.Failed) }
+
+        ensures fails { IsErrOf result Fault.Failed ↔ MustFail self.old }
+        ensures after { (result ≢ Err Fault.Memory) →
+            self.new ≡ cut_after self.old file len result }
+    {
+        if self.refuses() {
+            return Err(Fault::Failed);
+        }
+        self.changes.reserve(1)?;
+        shorten(&mut self.files, file, len as usize);
+        self.changes.push(Change::Cut(file, len))?;
+        self.calls = self.calls.saturating_add(1);
+        Ok(())
+    }
+
+    // Counts that memory ran out.
+    fn wanted(&mut self) -> Fault
+        ensures memory { result ≡ Fault.Memory }
+        ensures after { self.new ≡ record self.old { wants = counted self.old.wants } }
+        ensures later { self.old.wants ≤ self.new.wants }
+    {
+        self.wants = self.wants.saturating_add(1);
+        Fault::Memory
+    }
+}
+
 impl Disk for MemDisk {
     ghost use Rattle.disk_model.specs.MemDisk.{mem_history, IsReliable, IsUnfailing};
     ghost use Rattle.disk_model.specs.Laws.{mem_sound, mem_plain};
@@ -190,6 +281,8 @@ impl Disk for MemDisk {
     ghost history = { mem_history };
 
     ghost faults = { λ m. m.faults };
+
+    ghost wants = { λ m. m.wants };
 
     ghost reliable = { IsReliable };
 
@@ -250,6 +343,7 @@ impl Disk for MemDisk {
         ensures memory { result ≡ Err Fault.Memory → Unit {0} →
             mem_history self.new ≡ mem_history self.old }
         ensures cause { HasCauseOrMemory self.old.faults self.new.faults result }
+        ensures want { HasWant self.old.wants self.new.wants result }
         ensures keeps { KeepsWorking IsReliable IsUnfailing self.old self.new
             (result ≡ Err Fault.Failed) }
 
@@ -270,22 +364,11 @@ impl Disk for MemDisk {
         ensures after { ¬ MustFail self.old →
             self.new ≡ write_after self.old file at bytes.now result }
     {
-        if self.refuses() {
-            return Err(Fault::Failed);
+        match self.try_write(file, at, bytes) {
+            Ok(()) => Ok(()),
+            Err(Fault::Failed) => Err(Fault::Failed),
+            Err(Fault::Memory) => Err(self.wanted()),
         }
-        let kept = self.fuse.let_through(bytes.len());
-        let (front, _) = bytes.split_at(kept);
-        let change = Change::Write(file, at, Bytes::from_slice(self.alloc, front)?);
-        self.changes.reserve(1)?;
-        put(self.alloc, &mut self.files, file, at as usize, front)?;
-        self.changes.push(change)?;
-        self.fuse = self.fuse.used(bytes.len());
-        self.calls = self.calls.saturating_add(1);
-        if kept < bytes.len() {
-            self.faults = self.faults.saturating_add(1);
-            return Err(Fault::Failed);
-        }
-        Ok(())
     }
 
     fn cut(&mut self, file: u32, len: u64) -> Result<(), Fault>
@@ -298,20 +381,18 @@ impl Disk for MemDisk {
         ensures memory { result ≡ Err Fault.Memory → Unit {0} →
             mem_history self.new ≡ mem_history self.old }
         ensures cause { HasCauseOrMemory self.old.faults self.new.faults result }
+        ensures want { HasWant self.old.wants self.new.wants result }
         ensures keeps { KeepsWorking IsReliable IsUnfailing self.old self.new
             (result ≡ Err Fault.Failed) }
 
         ensures fails { IsErrOf result Fault.Failed ↔ MustFail self.old }
         ensures after { self.new ≡ cut_after self.old file len result }
     {
-        if self.refuses() {
-            return Err(Fault::Failed);
+        match self.try_cut(file, len) {
+            Ok(()) => Ok(()),
+            Err(Fault::Failed) => Err(Fault::Failed),
+            Err(Fault::Memory) => Err(self.wanted()),
         }
-        self.changes.reserve(1)?;
-        shorten(&mut self.files, file, len as usize);
-        self.changes.push(Change::Cut(file, len))?;
-        self.calls = self.calls.saturating_add(1);
-        Ok(())
     }
 
     fn sync(&mut self, file: u32) -> Result<(), Failed>

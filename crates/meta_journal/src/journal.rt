@@ -3,6 +3,7 @@ ghost use Rattle.std.specs.Prelude.{◌≡◌, ◌<◌, ◌^◌, ℕ, OnOk, OnEr
 ghost use Rattle.tx_model.specs.declared.meta.Meta.TheVariants.{Promise, Adopt, Low, Roll};
 ghost use Rattle.tx_model.specs.Spelling.{IsMeta, IsNextPlace, IsCount};
 ghost use Rattle.tx_model.specs.Records.{IsPlace};
+ghost use Rattle.io_core.specs.Causes.{Rose};
 ghost use Rattle.disk_model.specs.History.{EachMoment, KeepsWorking};
 ghost use Rattle.meta_journal.specs.Entries.{entries_at, HasEntry, EachLeftHas, IsTidy, IsEntered};
 ghost use Rattle.meta_journal.specs.Faults.{HasDiskCause};
@@ -40,6 +41,7 @@ impl Journal {
         ensures memory { IsErrOf result NoMemory → D.tells →
             D.history disk.new ≡ D.history disk.old }
         ensures cause { HasDiskCause (D.faults disk.old) (D.faults disk.new) result }
+        ensures want { IsErrOf result NoMemory → Rose (D.wants disk.old) (D.wants disk.new) }
         ensures keeps { KeepsWorking D.reliable D.unfailing disk.old disk.new
             (IsErrOf result Broke) }
     {
@@ -68,6 +70,7 @@ impl Journal {
         ensures memory { IsErrOf result NoMemory → D.tells →
             D.history disk.new ≡ D.history disk.old }
         ensures cause { HasDiskCause (D.faults disk.old) (D.faults disk.new) result }
+        ensures want { IsErrOf result NoMemory → Rose (D.wants disk.old) (D.wants disk.new) }
         ensures keeps { KeepsWorking D.reliable D.unfailing disk.old disk.new
             (IsErrOf result Broke) }
     {
@@ -97,6 +100,7 @@ impl Journal {
         ensures memory { IsErrOf result NoMemory → D.tells →
             D.history disk.new ≡ D.history disk.old }
         ensures cause { HasDiskCause (D.faults disk.old) (D.faults disk.new) result }
+        ensures want { IsErrOf result NoMemory → Rose (D.wants disk.old) (D.wants disk.new) }
         ensures keeps { KeepsWorking D.reliable D.unfailing disk.old disk.new
             (IsErrOf result Broke) }
     {
@@ -116,6 +120,7 @@ impl Journal {
         ensures memory { IsErrOf result NoMemory → D.tells →
             D.history disk.new ≡ D.history disk.old }
         ensures cause { HasDiskCause (D.faults disk.old) (D.faults disk.new) result }
+        ensures want { IsErrOf result NoMemory → Rose (D.wants disk.old) (D.wants disk.new) }
         ensures keeps { KeepsWorking D.reliable D.unfailing disk.old disk.new
             (IsErrOf result Broke) }
     {
@@ -135,6 +140,7 @@ impl Journal {
         ensures memory { IsErrOf result NoMemory → D.tells →
             D.history disk.new ≡ D.history disk.old }
         ensures cause { HasDiskCause (D.faults disk.old) (D.faults disk.new) result }
+        ensures want { IsErrOf result NoMemory → Rose (D.wants disk.old) (D.wants disk.new) }
         ensures keeps { KeepsWorking D.reliable D.unfailing disk.old disk.new
             (IsErrOf result Broke) }
     {

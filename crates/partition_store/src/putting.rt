@@ -1,10 +1,11 @@
 //! Steps that write one entry of the journal.
 ghost use Rattle.std.specs.Prelude.{◌≡◌, ◌<◌, ◌≤◌, false, None, OnOk, IsErrOf};
 ghost use Rattle.tx_model.specs.Records.{IsPlace};
+ghost use Rattle.io_core.specs.Causes.{Rose};
 ghost use Rattle.disk_model.specs.History.{KeepsWorking};
 ghost use Rattle.proto_model.specs.Nodes.{HasNodeCause, IsUndamaged};
 ghost use Rattle.proto_model.specs.Parts.{promised_to, lowered_to};
-ghost use Rattle.proto_model.specs.declared.replica.NodeFault.TheVariants.{Disk as Broke, Full};
+ghost use Rattle.proto_model.specs.declared.replica.NodeFault.TheVariants.{Disk as Broke, Full, Memory as NoMemory};
 ghost use Rattle.partition_store.specs.Stands.{LeavesAtEach, IsOldOrNew};
 ghost use Rattle.partition_store.specs.Stores.{state_by, IsDurable, IsAnswer};
 
@@ -37,6 +38,7 @@ impl<D: Disk> Store<D> {
         ensures answer { IsAnswer D.tells D.history self.old self.new result }
         ensures never { (IsErrOf result Full → ⊥) × IsUndamaged result }
         ensures cause { HasNodeCause (D.faults self.old.disk) (D.faults self.new.disk) result }
+        ensures want { IsErrOf result NoMemory → Rose (D.wants self.old.disk) (D.wants self.new.disk) }
         ensures keeps { KeepsWorking D.reliable D.unfailing self.old.disk self.new.disk
             (IsErrOf result Broke) }
     {
@@ -80,6 +82,7 @@ impl<D: Disk> Store<D> {
         ensures answer { IsAnswer D.tells D.history self.old self.new result }
         ensures never { (IsErrOf result Full → ⊥) × IsUndamaged result }
         ensures cause { HasNodeCause (D.faults self.old.disk) (D.faults self.new.disk) result }
+        ensures want { IsErrOf result NoMemory → Rose (D.wants self.old.disk) (D.wants self.new.disk) }
         ensures keeps { KeepsWorking D.reliable D.unfailing self.old.disk self.new.disk
             (IsErrOf result Broke) }
     {

@@ -1,6 +1,6 @@
 ghost use Rattle.std.specs.Prelude.{◌≡◌, ◌≢◌, ℕ, List, ◌+◌, true, false, Ok, Err, IfOk, OnOk, IsErrOf};
 ghost use Rattle.tx_model.specs.Spelling.{IsCount};
-ghost use Rattle.io_core.specs.Causes.{counted};
+ghost use Rattle.io_core.specs.Causes.{counted, Rose};
 ghost use Rattle.disk_model.specs.File.{IsImage};
 ghost use Rattle.disk_model.specs.History.{EachMoment, KeepsWorking};
 ghost use Rattle.session_register.specs.Registers.{cas_answer, number_after, IsCas};
@@ -79,6 +79,7 @@ impl<D: Disk> DiskRegister<D> {
             (EachLeftStandsForEither D.plain self.old.number (self.old.number + 1))
             (D.history self.old.disk) (D.history self.new.disk) }
         ensures cause { HasRegisterCause (D.faults self.old.disk) (D.faults self.new.disk) result }
+        ensures want { result ≡ Err NoMemory → Rose (D.wants self.old.disk) (D.wants self.new.disk) }
         ensures keeps { KeepsWorking D.reliable D.unfailing self.old.disk self.new.disk
             (result ≡ Err Failing) }
     {
@@ -138,9 +139,11 @@ impl<D: Disk> Register for DiskRegister<D> {
         ensures every_image { OnOk result (D.tells → (image : List ℕ) →
             IsImage ((D.history self.new.disk).now 0) image → StandsFor image self.new.number) }
 
-        // The disk is called only where the session may be won, and running out of memory leaves it as it was.
+        // The disk is called only where the session may be won. Memory runs out only there, which the disk counts, and that
+        // leaves it as it was.
         ensures unchanged { self.old.failed ≡ false →
             cas_answer self.old.number from ≢ Cas.Won (self.old.number + 1) → self.new ≡ self.old }
+        ensures want { result ≡ Err NoMemory → Rose (D.wants self.old.disk) (D.wants self.new.disk) }
         ensures memory { result ≡ Err NoMemory → D.tells →
             D.history self.new.disk ≡ D.history self.old.disk }
         ensures keeps { KeepsWorking D.reliable D.unfailing self.old.disk self.new.disk

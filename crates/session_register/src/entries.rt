@@ -2,7 +2,7 @@
 ghost use Rattle.std.specs.Prelude.{◌≡◌, ℕ, ◌+◌, ◌<◌, length, drop, IfOk, IfSome, IfNone, OnOk, IsErr, IsErrOf};
 ghost use Rattle.tx_model.specs.Spelling.{IsCount, IsMeta};
 ghost use Rattle.tx_model.specs.Framing.{meta_len, framed_meta};
-ghost use Rattle.io_core.specs.Causes.{HasCause, HasCauseOrMemory};
+ghost use Rattle.io_core.specs.Causes.{HasCause, HasCauseOrMemory, Rose};
 ghost use Rattle.io_core.specs.declared.fault.Fault.TheVariants.{Failed as Failing, Memory as NoMemory};
 ghost use Rattle.tx_model.specs.Frames.{joined, frames_in};
 ghost use Rattle.disk_model.specs.Frames.{HasFirmFrames};
@@ -134,6 +134,7 @@ pub(crate) fn write_next<D: Disk>(disk: &mut D, front: Front) -> Result<Front, F
         (D.history disk.old) (D.history disk.new) }
     ensures memory { IsErrOf result NoMemory → D.tells → D.history disk.new ≡ D.history disk.old }
     ensures cause { HasCauseOrMemory (D.faults disk.old) (D.faults disk.new) result }
+    ensures want { IsErrOf result NoMemory → Rose (D.wants disk.old) (D.wants disk.new) }
     ensures keeps { KeepsWorking D.reliable D.unfailing disk.old disk.new (IsErrOf result Failing) }
 {
     let mut frame = [0; META_FRAME];

@@ -26,6 +26,8 @@ impl Disk for Blind {
 
     ghost faults = { λ b. b.faults };
 
+    ghost wants = { λ _. 0 };
+
     ghost reliable = { λ _. ⊥ };
 
     ghost unfailing = { λ _. ⊥ };

@@ -216,6 +216,8 @@ impl<'a> Disk for FolderDisk<'a> {
 
     ghost faults = { λ d. d.faults };
 
+    ghost wants = { λ d. 0 };
+
     ghost reliable = { λ d. ⊥ };
 
     ghost unfailing = { λ d. ⊥ };

@@ -1,22 +1,9 @@
-use Rattle.std.proofs.Common.{◌≡◌, ◌∙◌, ap, rules}
-use Rattle.disk_model.specs.MemDisk.{MemState}
-use Rattle.disk_model.proofs.Kept.{cut_agrees, cut_reads, cut_goes}
+use Rattle.std.proofs.Common.{◌∙◌, ap, Err}
+use Rattle.disk_model.proofs.Wants.{want_counted, cut_wants}
 use Rattle.disk_model.proofs.memory.MemDiskDisk.cut.Goals as goal
 
-pub invariant_of-self-2 : goal.invariant_of-self-2
-invariant_of-self-2 c =
-    let was : c.refuses.new.self ≡ c.args.self.now = search rules in
-    cut_agrees c.args.self.now.changes c.self.inside.changes.items c.push.new.self.items c.self.inside.files c.shorten.new.files c.args.file c.args.len
-    (ap (λ (m : MemState). m.changes) (c.self.view_is ∙ was)) (search rules) c.shorten.ensures c.self.invariant
+pub returns-in-Err-Memory-clause-want : goal.returns-in-Err-Memory-clause-want
+returns-in-Err-Memory-clause-want c = want_counted c.args.self.now c.try_cut.new.self c.wanted.new.self c.wanted.result c.wanted.ensures.memory (c.try_cut.ensures.memory (c.in-Err-Memory.is ∙ ap Err c.in-Err-Memory.field-0-is)) c.wanted.ensures.after c.wanted.ensures.later
 
-pub returns-clause-reads : goal.returns-clause-reads
-returns-clause-reads c =
-    let was : c.refuses.new.self ≡ c.args.self.now = search rules in
-    λ t. cut_reads c.args.self.now.changes c.self.inside.changes.items c.push.new.self.items c.self.inside.files c.shorten.new.files c.args.file c.args.len
-    (ap (λ (m : MemState). m.changes) (c.self.view_is ∙ was)) (search rules) c.shorten.ensures c.self.invariant
-
-pub returns-clause-moments : goal.returns-clause-moments
-returns-clause-moments c =
-    let was : c.refuses.new.self ≡ c.args.self.now = search rules in
-    λ t. cut_goes c.args.self.now.changes c.self.inside.changes.items c.push.new.self.items c.self.inside.files c.shorten.new.files c.args.file c.args.len
-    (ap (λ (m : MemState). m.changes) (c.self.view_is ∙ was)) (search rules) c.shorten.ensures c.self.invariant
+pub returns-in-Err-Memory-clause-after : goal.returns-in-Err-Memory-clause-after
+returns-in-Err-Memory-clause-after c = cut_wants c.args.self.now c.try_cut.new.self c.wanted.new.self c.wanted.result c.wanted.ensures.memory (c.try_cut.ensures.memory (c.in-Err-Memory.is ∙ ap Err c.in-Err-Memory.field-0-is)) c.wanted.ensures.after c.args.file c.args.len
