@@ -1,5 +1,5 @@
 -- A storage node that serves: what it answers, and how it fails.
-use Rattle.std.specs.Prelude.{◌≡◌, ℕ, ◌^◌, ◌-◌, Bool, true, false, Option, None, ⊤}
+use Rattle.std.specs.Prelude.{◌≡◌, ◌≤◌, ℕ, ◌^◌, ◌+◌, ◌-◌, Bool, true, false, Option, None, ⊤}
 use Rattle.proto_model.specs.declared.message.ToNode.{ToNode}
 use Rattle.proto_model.specs.declared.message.Status.{Status}
 use Rattle.proto_model.specs.Replicas.{ReplicaState, replica_after, replica_reply}
@@ -41,13 +41,15 @@ abbrev pub HasFile : ReplicaState → ℕ → Asked → Type 0
 HasFile r file (asks.Node m) = LacksFile r file m → ⊥
 HasFile r file _ = ⊤
 
--- The reply to what is asked, and what the replica is then. Where its files tell, it is the reply of its step.
+-- The reply to what is asked, and what the replica is then. Where its files tell, it is the reply of its step. It begins one
+-- file at most.
 pub record IsNodeReply {R : Type 0} (tells : Type 0) (state : R → ReplicaState) (shut : R → Bool) (shown : R → Status) (asked : Asked) (reply : Message) (a b : R) : Type 0 where
   pub suits : SuitsNode asked reply
   pub on : shut b ≡ false
   pub reply_is : tells → reply ≡ storage_reply (state a) asked
   pub after : tells → state b ≡ storage_after (state a) asked
   pub file : tells → HasFile (state a) (shown a).file asked
+  pub grows : ((shown a).file ≤ (shown b).file) × ((shown b).file ≤ (shown a).file + 1)
 
 -- How the replica fails at a message, and what it is then. Where its disk failed, its files stand for what a crash within
 -- the step may leave.
@@ -65,6 +67,7 @@ pub record IsNodeFault {R : Type 0} (tells : Type 0) (state : R → ReplicaState
   pub message : ToNode
   pub asked_is : asked ≡ asks.Node message
   pub fails : FailsAt tells state files sure shut shown message end a b
+  pub shows : shown b ≡ shown a
 
 -- an answer doesn't end the loop
 abbrev pub goes_on : {S : Type 0} → S → Option End

@@ -1,5 +1,5 @@
 -- A command whose disk could not be loaded.
-use Rattle.std.proofs.Common.{◌≡◌, ◌⊎◌, ℕ, ◌<◌, Option, Some, Result, Err, List, arith, refl}
+use Rattle.std.proofs.Common.{◌≡◌, ◌⊎◌, ℕ, ◌<◌, Option, Some, Err, List, arith, refl}
 use Rattle.tx_model.specs.Framing.{meta_len}
 use Rattle.disk_model.specs.Frames.{HasFirmFrames}
 use Rattle.disk_model.specs.History.{History, EachMoment}

@@ -5,7 +5,6 @@ use Rattle.session_register.specs.Values.{StandsFor, EachLeftStandsForEither}
 use Rattle.wire_codec.specs.declared.message.Message.{Message}
 use Rattle.wire_codec.specs.declared.message.ToRegister.{ToRegister}
 use Rattle.node_loops.specs.declared.requests.Asked.{Asked}
-use Rattle.node_loops.specs.declared.requests.Asked.TheVariants as asks
 use Rattle.node_loops.specs.declared.end.End.{End}
 use Rattle.node_loops.specs.declared.end.End.TheVariants as ends
 use Rattle.node_loops.specs.Serving.{Desk, desk, Runs}
@@ -25,10 +24,10 @@ module _ {G : Type 0} (told : G → Option ℕ) (stands : G → ℕ → Type 0) 
       Runs (Unit {0}) Suiting Breaking goes_on (desk a.coming a.answers tt) (desk b.coming b.answers tt) end
   suiting_runs a b end runs =
       (seen_runs (IsRegisterReply told stands) (IsRegisterFault told stands leaves) Suiting Breaking
-      (λ _ _. Unit {0}) (λ _. Unit {0}) (λ _ _ _. Unit {0})
+      (λ _ _. Unit {0}) (λ _ _ _. Unit {0})
       (λ asked reply x y t _ r. (tt, (r.suits, tt)))
-      (λ asked e x y t _ f _. (tt, ((f.message, f.asked_is), tt)))
-      (λ e x t _ _. tt) a b tt end tt tt runs).1.0
+      (λ asked e x y t _ f. (tt, ((f.message, f.asked_is), tt)))
+      (λ e x t _ _. tt) a b tt end tt runs).1.0
 
   -- it tells this number, and its file stands for it
   record IsAt (x : G) (n : Numbers) : Type 0 where
@@ -89,9 +88,9 @@ module _ {G : Type 0} (told : G → Option ℕ) (stands : G → ℕ → Type 0) 
       (n' : Numbers) × (Runs Numbers Calling Stopping goes_on (desk a.coming a.answers (alone n)) (desk b.coming b.answers n') end × LeftBy stands leaves end b.server n')
   calling_runs a b end n is files runs =
       seen_runs (IsRegisterReply told stands) (IsRegisterFault told stands leaves) Calling Stopping
-      IsAt (λ _. Unit {0}) Left stepped
-      (λ asked e x y t at f _. let l = stopped f.message e x y t at f.fails in (l.0, ((f.message, (f.asked_is, l.1.0)), l.1.1)))
-      kept a b (alone n) end (record { alone_is = refl; told_is = is; stands_is = files }) tt runs
+      IsAt Left stepped
+      (λ asked e x y t at f. let l = stopped f.message e x y t at f.fails in (l.0, ((f.message, (f.asked_is, l.1.0)), l.1.1)))
+      kept a b (alone n) end (record { alone_is = refl; told_is = is; stands_is = files }) runs
 
 -- what the file stands for
 module _ {G : Type 0} (tells plain : Type 0) (file : G → File) where

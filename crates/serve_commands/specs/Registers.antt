@@ -1,14 +1,12 @@
 -- A register's command over a disk: what it makes of the requests, and what the disk stands for afterwards.
-use Rattle.std.specs.Prelude.{◌≡◌, ℕ, List, Option, ⊤}
+use Rattle.std.specs.Prelude.{◌≡◌, ℕ, List, Option}
 use Rattle.io_core.specs.Ports.{Answered}
 use Rattle.tx_model.specs.Framing.{meta_len}
 use Rattle.disk_model.specs.File.{File, IsImage}
 use Rattle.disk_model.specs.Frames.{HasFirmFrames}
 use Rattle.disk_model.specs.History.{History, EachMoment}
 use Rattle.session_register.specs.Values.{StandsFor, EachLeftStandsFor, EachLeftStandsForEither, IsDamagedAt}
-use Rattle.wire_codec.specs.declared.message.Message.{Message}
 use Rattle.wire_codec.specs.declared.message.ToRegister.{ToRegister}
-use Rattle.node_loops.specs.declared.requests.Asked.{Asked}
 use Rattle.node_loops.specs.declared.requests.Asked.TheVariants as asks
 use Rattle.node_loops.specs.declared.end.End.{End}
 use Rattle.node_loops.specs.declared.end.End.TheVariants as ends

@@ -6,7 +6,7 @@ ghost use Rattle.node_loops.specs.declared.end.End.{End as EndValue};
 ghost use Rattle.node_loops.specs.Ends.{status_of, serving_text, Prints, IsBroken};
 ghost use Rattle.node_loops.specs.Serving.{desk, Runs};
 ghost use Rattle.node_loops.specs.Storage.{goes_on};
-ghost use Rattle.serve_commands.specs.Storages.{Suiting, Breaking, GoesFrom, IsSure, ServesNode};
+ghost use Rattle.serve_commands.specs.Storages.{Suiting, Breaking, unbroken, GoesFrom, IsUndamaged, ServesNode};
 
 use crate::front::Front;
 use crate::unloaded::end_of;
@@ -30,8 +30,10 @@ fn serve_node<D: Disk, P: Port, W: Sink>(
         × (P.tells → Runs (Unit {0}) Suiting Breaking goes_on
         (desk (P.coming port.old) (P.answers port.old) tt)
         (desk (P.coming port.new) (P.answers port.new) tt) end)
-        × (D.tells → P.tells → IsSure D.plain (D.history result.0).now →
-        GoesFrom (state_by D.history node.store) (P.coming port.old) (P.coming port.new)
+        × (D.tells → IsUndamaged end)
+        × (D.tells → P.tells →
+        GoesFrom D.plain (unbroken (state_by D.history node.store) node.shown.file)
+        (P.coming port.old) (P.coming port.new)
         (P.answers port.old) (P.answers port.new) end (D.history result.0).now)
         × Prints (W.contents sink.old) (W.contents sink.new) (serving_text number end)
         (status_of end) result.1 }

@@ -1,6 +1,7 @@
-use Rattle.std.proofs.Common.{arith, refl, sym, ap, Err}
+use Rattle.std.proofs.Common.{arith, refl, ap, ◌∙◌, Err}
 use Rattle.partition_store.specs.Stands.{held_now}
 use Rattle.serve_commands.specs.Storages.{unloaded, loaded}
+use Rattle.serve_commands.proofs.StorageRuns.{goes_from}
 use Rattle.serve_commands.proofs.NotLoaded.{storage_unloaded, unloaded_told}
 use Rattle.serve_commands.proofs.node_command.serve_disk.Goals as goal
 
@@ -9,13 +10,14 @@ returns-in-Ok-clause-serves g c =
     let s = c.serve_node.ensures.serves in (
       s.0,
       _,
-      loaded s.0 s.1
+      loaded s.0 s.1 s.2
           (λ t. (
             held_now (g.D.Disk.history c.in-Ok.node.store.disk).now,
             c.in-Ok.ensures.held t,
-            (λ u sure. rw (sym (c.in-Ok.ensures.state t)) (s.2 t u sure)),
+            (λ u. goes_from _ _ _ _ _ _ _ _ _ _ _ (c.in-Ok.ensures.state t)
+                (ap (λ status. status.file) c.in-Ok.ensures.shown ∙ (c.in-Ok.ensures.durable t).standing.file) (s.3 t u)),
           )),
-      s.3,
+      s.4,
     )
 
 pub returns-in-Err-clause-serves : goal.returns-in-Err-clause-serves
